@@ -1,0 +1,32 @@
+//! Dimensions, points, and the measures of boxes.
+
+/// A dimension in scaled points, of which 65536 make one printer's point (The TeXbook, chapter 10).
+#[derive(Clone, Copy, Debug, PartialEq, Eq, PartialOrd, Ord, Hash)]
+pub struct Sp(pub i64);
+
+/// A point of a page, in scaled points from the page's top left corner: `x` grows to the right and
+/// `y` downwards.
+#[derive(Clone, Copy, Debug, PartialEq, Eq, Hash)]
+pub struct Point {
+    pub x: Sp,
+    pub y: Sp,
+}
+
+/// The width, height and depth of a box or a character, in scaled points (The TeXbook, chapter 11).
+/// The width lies along the direction of writing, height and depth across it, before and behind the
+/// baseline.
+#[derive(Clone, Copy, Debug, PartialEq, Eq, Hash)]
+pub struct Measures {
+    pub wd: Sp,
+    pub ht: Sp,
+    pub dp: Sp,
+}
+
+/// What a box covers of a page: the coordinates of its four edges, in scaled points, as of `Point`.
+#[derive(Clone, Copy, Debug, PartialEq, Eq, Hash)]
+pub struct Rect {
+    pub left: Sp,
+    pub top: Sp,
+    pub right: Sp,
+    pub bottom: Sp,
+}

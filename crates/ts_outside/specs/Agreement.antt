@@ -1,0 +1,45 @@
+-- What a call may answer beside the answer that its arguments determine.
+use Rattle.std.specs.Prelude.{◌≡◌, ℕ, ◌+◌, ◌≤◌, min, Result, Ok, Err}
+
+-- Why a call refuses: its arguments determine the fault; or a call on the outside answered Failed, which is counted;
+-- or memory ran out, which nothing determines.
+pub data Cause : Type 0 where
+  Determined : Cause
+  Counted : Cause
+  Free : Cause
+
+-- first one step, and then another with what it gave; the first fault ends both
+infixl 10 ◌>>=◌
+abbrev pub ◌>>=◌ : {X Y E : Type 0} → Result X E → (X → Result Y E) → Result Y E
+(Ok x) >>= step = step x
+(Err e) >>= step = Err e
+
+-- a fault of such a cause, where the arguments determine what is given
+abbrev pub AgreesFault : {Y E : Type 0} → Cause → E → Result Y E → Type 0
+AgreesFault Determined e given = given ≡ Err e
+AgreesFault Counted e given = Unit {0}
+AgreesFault Free e given = Unit {0}
+
+-- What a call answered is what is given, seen by view, but for a counted fault and want of memory.
+abbrev pub Agrees : {X Y E : Type 0} → (X → Y) → (E → Cause) → Result X E → Result Y E → Type 0
+Agrees view cause (Ok x) given = given ≡ Ok (view x)
+Agrees view cause (Err e) given = AgreesFault (cause e) e given
+
+-- where every count of faults stops
+abbrev pub last_count : ℕ
+last_count = 18446744073709551615
+
+-- The count is greater than it was, or stands at its last value.
+abbrev pub Rose : ℕ → ℕ → Type 0
+Rose old new = min (old + 1) last_count ≤ new
+
+-- the count after a fault of such a cause
+abbrev pub CountsFault : Cause → ℕ → ℕ → Type 0
+CountsFault Determined old new = new ≡ old
+CountsFault Counted old new = Rose old new
+CountsFault Free old new = old ≤ new
+
+-- The count rose where a counted fault was answered, never fell, and else is as it was, but for want of memory.
+abbrev pub Counts : {X E : Type 0} → (E → Cause) → Result X E → ℕ → ℕ → Type 0
+Counts cause (Ok x) old new = new ≡ old
+Counts cause (Err e) old new = CountsFault (cause e) old new
