@@ -31,7 +31,7 @@ last_count = 18446744073709551615
 
 -- The count is greater than it was, or stands at its last value.
 abbrev pub Rose : ℕ → ℕ → Type 0
-Rose old new = min (old + 1) last_count ≤ new
+Rose old new = (old ≤ new) × (min (old + 1) last_count ≤ new)
 
 -- the count after a fault of such a cause
 abbrev pub CountsFault : Cause → ℕ → ℕ → Type 0
