@@ -1,2 +1,5 @@
 pub mod Names
 pub mod Agreement
+pub mod Reading
+pub mod Gaining
+pub mod Memory

@@ -1,6 +1,13 @@
 //! The world outside of the program: files to read and sinks to write to.
 #![tactic(auto)]
 
+mod files;
+mod mem_sink;
 mod name;
+mod script;
+mod sink;
 
+pub use files::{FileNo, Files, Got, Opened};
+pub use mem_sink::MemSink;
 pub use name::{FileName, NameFault};
+pub use sink::{Put, PutFault, Sink, put_all};
