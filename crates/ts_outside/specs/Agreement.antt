@@ -14,6 +14,9 @@ abbrev pub ◌>>=◌ : {X Y E : Type 0} → Result X E → (X → Result Y E) �
 (Ok x) >>= step = step x
 (Err e) >>= step = Err e
 
+abbrev pub followed_by : {X Y E : Type 0} → Result X E → (X → Result Y E) → Result Y E
+followed_by first step = first >>= step
+
 -- a fault of such a cause, where the arguments determine what is given
 abbrev pub AgreesFault : {Y E : Type 0} → Cause → E → Result Y E → Type 0
 AgreesFault Determined e given = given ≡ Err e

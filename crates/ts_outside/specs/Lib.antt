@@ -3,3 +3,4 @@ pub mod Agreement
 pub mod Reading
 pub mod Gaining
 pub mod Memory
+pub mod Holding

@@ -1,5 +1,5 @@
 -- Files and sinks in memory: which of their calls fail, and how their pieces are cut.
-use Rattle.std.specs.Prelude.{ℕ, ◌+◌, ◌%◌, min, max, List, [], ◌∷◌, drop, length, Bool, true, false, Option, Some, None, get_or, is_some, ◌==◌, if◌then◌else◌}
+use Rattle.std.specs.Prelude.{ℕ, ◌+◌, ◌%◌, min, max, List, [], ◌∷◌, length, Bool, Option, None, get_or, ◌==◌, if◌then◌else◌}
 use Rattle.std.specs.List.{list_any}
 use Rattle.ts_outside.specs.Agreement.{last_count}
 use Rattle.ts_outside.specs.Reading.{Held}
@@ -21,28 +21,19 @@ abbrev pub cut_at : List ℕ → ℕ → ℕ → ℕ
 cut_at [] piece room = room
 cut_at (cut ∷ cuts) piece room = min room (max 1 (get_or (cut ∷ cuts) (piece % length (cut ∷ cuts)) 0))
 
--- an open file: which of those that are held, and how many bytes of it were read
-pub record Seat : Type 0 where
-  pub file : ℕ
-  pub place : ℕ
-
--- files in memory, with the open ones by number, and how many calls and reads there were
+-- files in memory, with what is left of each open one by its number, and how many calls and reads there were
 pub record Shelf : Type 0 where
   pub held : List Held
-  pub seats : List (Option Seat)
+  pub left : List (Option (List ℕ))
   pub cuts : List ℕ
   pub fails : List ℕ
   pub calls : ℕ
   pub reads : ℕ
   pub faults : ℕ
 
-abbrev pub no_file : Held
-no_file = record { name = []; bytes = [] }
-
--- what is left of an open file
-abbrev pub seat_left : List Held → Option Seat → Option (List ℕ)
-seat_left held None = None
-seat_left held (Some seat) = Some (drop seat.place (get_or held seat.file no_file).bytes)
+-- what is left of the file of a number
+abbrev pub left_at : Shelf → ℕ → Option (List ℕ)
+left_at shelf n = get_or shelf.left n None
 
 -- a sink in memory, and how many puts there were
 pub record Tray : Type 0 where

@@ -2,12 +2,16 @@
 #![tactic(auto)]
 
 mod files;
+mod laws;
+mod mem_files;
 mod mem_sink;
 mod name;
 mod script;
 mod sink;
 
 pub use files::{FileNo, Files, Got, Opened};
+pub use laws::{steps_agree, steps_count, steps_gain};
+pub use mem_files::{MemFile, MemFiles};
 pub use mem_sink::MemSink;
 pub use name::{FileName, NameFault};
 pub use sink::{Put, PutFault, Sink, put_all};

@@ -62,6 +62,8 @@ impl Sink for MemSink {
         ensures counted { CountsPut result self.old.faults self.new.faults }
         ensures fails { (result ≡ Put.Failed) ↔ (fails_at self.old.fails self.old.puts ≡ true) }
         ensures cut { (n : ℕ) → result ≡ Put.Took n → n ≡ cut_at self.old.cuts self.old.puts (length piece.now) }
+        ensures faults { self.new.faults
+            ≡ faults_after (fails_at self.old.fails self.old.puts) self.old.faults }
         ensures puts { self.new.puts ≡ next_count self.old.puts }
         ensures cuts { self.new.cuts ≡ self.old.cuts }
         ensures plan { self.new.fails ≡ self.old.fails }
