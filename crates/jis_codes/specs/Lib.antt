@@ -1,1 +1,4 @@
 pub mod Kuten
+pub mod Spellings
+pub mod Numbers
+pub mod OneToOne

@@ -1,0 +1,2 @@
+pub mod Spelt
+mod Examples

@@ -1,0 +1,10 @@
+//! Characters.
+
+use crate::cell::Cell;
+
+/// A character of a line: a byte, below 128, or a cell of JIS X 0208.
+#[derive(Clone, Copy, Debug, PartialEq, Eq, Hash)]
+pub enum Char {
+    One(u8),
+    Ja(Cell),
+}
