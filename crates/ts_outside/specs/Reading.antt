@@ -68,3 +68,13 @@ abbrev pub CountsGot : Got → ℕ → ℕ → Type 0
 CountsGot (got.Bytes n) old new = new ≡ old
 CountsGot got.End old new = new ≡ old
 CountsGot got.Failed old new = Rose old new
+
+-- Every file but that of one number is open or closed as it was, the open ones at their places.
+abbrev pub KeepsOthers : ℕ → (ℕ → Bool) → (ℕ → Option (List ℕ)) → (ℕ → Bool) → (ℕ → Option (List ℕ)) → Type 0
+KeepsOthers file open_before left_before open_after left_after =
+    (n : ℕ) → n ≢ file → (open_after n ≡ open_before n) × (open_before n ≡ true → left_after n ≡ left_before n)
+
+-- Every file is open or closed as it was, the open ones at their places.
+abbrev pub KeepsAll : (ℕ → Bool) → (ℕ → Option (List ℕ)) → (ℕ → Bool) → (ℕ → Option (List ℕ)) → Type 0
+KeepsAll open_before left_before open_after left_after =
+    (n : ℕ) → (open_after n ≡ open_before n) × (open_before n ≡ true → left_after n ≡ left_before n)
