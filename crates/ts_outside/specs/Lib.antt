@@ -1,4 +1,6 @@
 pub mod Names
+pub mod Endings
+pub mod Naming
 pub mod Agreement
 pub mod Reading
 pub mod Gaining

@@ -15,3 +15,6 @@ pub use mem_files::{MemFile, MemFiles};
 pub use mem_sink::MemSink;
 pub use name::{FileName, NameFault};
 pub use sink::{Put, PutFault, Sink, put_all};
+
+#[cfg(test)]
+mod tests;

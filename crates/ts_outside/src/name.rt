@@ -1,10 +1,13 @@
 //! Names of files.
 
-ghost use Rattle.std.specs.Prelude.{◌≡◌, ◌↔◌, IsTrue, false, IfOk};
-ghost use Rattle.std.specs.List.{list_all};
+ghost use Rattle.std.specs.Prelude.{◌≡◌, ◌↔◌, ◌++◌, ◌||◌, if◌then◌else◌, IsTrue, false, IfOk};
+ghost use Rattle.std.specs.List.{list_all, list_any};
+ghost use Rattle.ts_outside.specs.Endings.{is_dot, is_slash, last_part, with_ending};
+ghost use Rattle.ts_outside.specs.Agreement.{Agrees};
+ghost use Rattle.ts_outside.specs.Naming.{named, name_cause};
 ghost use Rattle.ts_outside.specs.Names.{is_visible as is_visible_byte, is_file_name};
 
-use std::alloc::Global;
+use std::alloc::{AllocError, Global};
 use std::marker::Model;
 use thiserror::Error;
 
@@ -54,6 +57,37 @@ fn is_valid(text: &[u8]) -> bool
     !text.is_empty() && text.len() <= 255 && are_visible(text)
 }
 
+// Whether a part has a dot, with one byte more.
+fn ending_after(ending: bool, byte: u8) -> bool
+    ensures { result ≡ (if is_slash byte then false else (is_dot byte || ending)) }
+{
+    match byte {
+        b'/' => false,
+        b'.' => true,
+        _ => ending,
+    }
+}
+
+// Whether the part after the last slash has a dot.
+fn has_ending(text: &[u8]) -> bool
+    ensures { result ≡ list_any is_dot (last_part text.now) }
+{
+    let mut ending = false;
+    for b in text {
+        ending = ending_after(ending, *b);
+    }
+    ending
+}
+
+// The two texts, one after the other.
+fn joined(alloc: Global, text: &[u8], ending: &[u8]) -> Result<Vec<u8>, AllocError>
+    ensures { IfOk result (λ v. v.items ≡ text.now ++ ending.now) }
+{
+    let mut whole = Vec::from_slice(alloc, text)?;
+    whole.extend_from_slice(ending)?;
+    Ok(whole)
+}
+
 impl FileName {
     /// The name of these bytes. `BadName` comes exactly where their number isn't 1 to 255 or one
     /// of them isn't 33 to 126.
@@ -66,6 +100,20 @@ impl FileName {
         }
         match Vec::from_slice(alloc, text) {
             Ok(bytes) => Ok(FileName { bytes }),
+            Err(_) => Err(NameFault::NoMemory),
+        }
+    }
+
+    /// The name of these bytes, and then of this ending where no dot stands in the part after the
+    /// last slash. `BadName` comes exactly where that is no name of a file.
+    pub fn with_ending(alloc: Global, text: &[u8], ending: &[u8]) -> Result<FileName, NameFault>
+        ensures { Agrees (λ n. n) name_cause result (named (with_ending ending.now text.now)) }
+    {
+        if has_ending(text) {
+            return FileName::new(alloc, text);
+        }
+        match joined(alloc, text, ending) {
+            Ok(whole) => FileName::new(alloc, &whole),
             Err(_) => Err(NameFault::NoMemory),
         }
     }

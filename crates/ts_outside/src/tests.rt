@@ -1,0 +1,99 @@
+use crate::{
+    FileName, Files, Got, MemFile, MemFiles, MemSink, NameFault, Opened, Put, PutFault, Sink,
+    put_all,
+};
+use std::alloc::Global;
+use std::test::Fail;
+
+fn file(alloc: Global, name: &[u8], bytes: &[u8]) -> Result<MemFile, Fail> {
+    Ok(MemFile {
+        name: FileName::new(alloc, name)?,
+        bytes: Vec::from_slice(alloc, bytes)?,
+    })
+}
+
+#[test]
+fn names(rt: HostRuntime) -> Result<(), Fail> {
+    let long = [b'n'; 256];
+    let table: [(&[u8], &[u8]); 5] = [
+        (b"row", b"row.tex"),
+        (b"row.tfm", b"row.tfm"),
+        (b"a.b/row", b"a.b/row.tex"),
+        (b"a/b.c", b"a/b.c"),
+        (&long[..251], &[]),
+    ];
+    for (text, want) in &table[..4] {
+        let name = FileName::with_ending(rt.alloc(), text, b".tex")?;
+        assert_eq!(rt; name.bytes(), *want);
+        assert_eq!(rt; FileName::new(rt.alloc(), text)?.bytes(), *text);
+    }
+    assert!(rt; FileName::with_ending(rt.alloc(), table[4].0, b".tex").is_ok());
+    for text in [&long[..252], b"a b", b"\x7F"] {
+        let refused = FileName::with_ending(rt.alloc(), text, b".tex").err();
+        assert_eq!(rt; refused.unwrap_or(NameFault::NoMemory), NameFault::BadName);
+    }
+    for text in [&long[..], b"", b"a b", b"\x80"] {
+        let refused = FileName::new(rt.alloc(), text).err();
+        assert_eq!(rt; refused.unwrap_or(NameFault::NoMemory), NameFault::BadName);
+    }
+    Ok(())
+}
+
+#[test]
+fn files_in_memory(rt: HostRuntime) -> Result<(), Fail> {
+    let held = vec![in rt.alloc();
+        file(rt.alloc(), b"a", b"abcdefg")?,
+        file(rt.alloc(), b"a", b"x")?,
+    ]?;
+    let cuts = vec![in rt.alloc(); 2usize, 0]?;
+    let fails = vec![in rt.alloc(); 3u64]?;
+    let mut files = MemFiles::new(rt.alloc(), held, cuts, fails);
+    let Opened::Found(first) = files.open(&FileName::new(rt.alloc(), b"a")?) else {
+        return Err(Fail::from("not found"));
+    };
+    let mut all = Vec::new(rt.alloc());
+    let wanted = [
+        Got::Bytes(2),
+        Got::Bytes(1),
+        Got::Failed,
+        Got::Bytes(1),
+        Got::Bytes(2),
+        Got::Bytes(1),
+        Got::End,
+    ];
+    for want in wanted {
+        let mut buffer = [0u8; 5];
+        let got = files.read(first, &mut buffer);
+        assert_eq!(rt; got, want);
+        if let Got::Bytes(n) = got {
+            all.extend_from_slice(&buffer[..n])?;
+        }
+    }
+    assert_eq!(rt; all.as_slice(), b"abcdefg".as_slice());
+    assert_eq!(rt;
+        files.open(&FileName::new(rt.alloc(), b"b")?),
+        Opened::Missing
+    );
+    files.close(first);
+    Ok(())
+}
+
+#[test]
+fn sinks_in_memory(rt: HostRuntime) -> Result<(), Fail> {
+    let table: [(&[usize], &[u64], Result<(), PutFault>, &[u8]); 4] = [
+        (&[], &[], Ok(()), b"abc"),
+        (&[1], &[], Ok(()), b"abc"),
+        (&[1], &[1], Err(PutFault::Failed), b"a"),
+        (&[2, 1], &[0], Err(PutFault::Failed), b""),
+    ];
+    for (cuts, fails, want, held) in table {
+        let cuts = Vec::from_slice(rt.alloc(), cuts)?;
+        let fails = Vec::from_slice(rt.alloc(), fails)?;
+        let mut sink = MemSink::new(rt.alloc(), cuts, fails);
+        assert_eq!(rt; put_all(&mut sink, b"abc"), want);
+        assert_eq!(rt; sink.bytes(), held);
+    }
+    let mut sink = MemSink::new(rt.alloc(), Vec::new(rt.alloc()), Vec::new(rt.alloc()));
+    assert_eq!(rt; sink.put(b"xy"), Put::Took(2));
+    Ok(())
+}
