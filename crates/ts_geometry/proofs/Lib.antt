@@ -1,0 +1,5 @@
+pub mod Crossed
+pub mod Fractions
+pub mod Moved
+pub mod Nested
+mod Examples
