@@ -1,11 +1,22 @@
--- Laws of directions and crossings.
-use Rattle.std.specs.Prelude.{◌≡◌, ◌↔◌}
+-- Laws of the definitions.
+use Rattle.std.specs.Prelude.{◌≡◌, ◌↔◌, ℕ, ◌+◌, ◌*◌, ◌<◌, ◌≤◌, ℤ, pos, ◌+ℤ◌, ◌*ℤ◌, ◌≤ℤ◌, ◌<ℤ◌}
 use Rattle.ts_geometry.specs.declared.direction.Dir.{Dir}
 use Rattle.ts_geometry.specs.declared.measure.Sp.{Sp}
 use Rattle.ts_geometry.specs.declared.measure.Point.{Point}
 use Rattle.ts_geometry.specs.declared.measure.Measures.{Measures}
+use Rattle.ts_geometry.specs.Numbers.{floor_div, nearest}
 use Rattle.ts_geometry.specs.Directions.{step, rect, step_rect, extent}
 use Rattle.ts_geometry.specs.Crossings.{seen, inner_point, IsInnerPoint}
+
+-- n times the floor of z / n isn't above z, and n more is
+abbrev pub FloorsAreGreatest : Type 0
+FloorsAreGreatest = (z : ℤ) (n : ℕ) → 0 < n →
+    ((floor_div z n *ℤ pos n) ≤ℤ z) × (z <ℤ ((floor_div z n *ℤ pos n) +ℤ pos n))
+
+-- n / d lies from half below the number nearest to it, and to below half above it
+abbrev pub NearestIsWithinHalf : Type 0
+NearestIsWithinHalf = (n d : ℕ) → 0 < d →
+    (2 * (nearest n d * d) ≤ 2 * n + d) × (2 * n < 2 * (nearest n d * d) + d)
 
 -- where the reference point of a box takes a step, so do the corners of what it covers
 abbrev pub StepsMoveRectangles : Type 0

@@ -8,7 +8,7 @@ IsWithin z = (neg_ℤ (pos (2 ^ 60)) ≤ℤ z) × (z ≤ℤ pos (2 ^ 60))
 
 -- ---- badness
 
--- about 100 times the cube root of 100 times shortfall / stretch: 297 is near to it (TeX: The Program, section 108)
+-- shortfall / stretch in units of about 1 / 297, so that its cube is about 100 * 2^18 times that of shortfall / stretch
 abbrev pub stretch_ratio : ℕ → ℕ → ℕ
 stretch_ratio shortfall stretch =
     if nat_le shortfall 7230584 then (297 * shortfall) / stretch
@@ -32,7 +32,8 @@ abbrev pub floor_div : ℤ → ℕ → ℤ
 floor_div (pos a) n = pos (a / n)
 floor_div (negsuc a) n = negsuc (a / n)
 
--- a number of a metric file, in units of 2^-20 of the size, at a font's size in scaled points (TeX: The Program, section 571)
+-- a number of a metric file, in units of 2^-20 of the font's size, in the units of that size (TeX: The Program, sections 571
+-- and 572)
 abbrev pub scale : ℤ → ℕ → ℤ
 scale fix_word size = floor_div (fix_word *ℤ pos size) (2 ^ 20)
 
@@ -69,6 +70,6 @@ rounded (negsuc n) (negsuc d) = pos (nearest (suc n) (suc d))
 abbrev pub bounded : ℤ → ℤ
 bounded z = int_max (neg_ℤ (pos (10 ^ 9))) (int_min z (pos (10 ^ 9)))
 
--- how much of an excess falls to a stretch or shrink of t, where all of them come to the total
+-- how much of an excess falls to a part of the stretch or shrink, where all of it comes to the total
 abbrev pub share : ℤ → ℤ → ℤ → ℤ
-share t excess total = bounded (rounded (t *ℤ excess) total)
+share part excess total = bounded (rounded (part *ℤ excess) total)

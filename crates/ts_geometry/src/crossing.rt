@@ -23,10 +23,22 @@ pub fn seen(m: Measures, own: Dir, from: Dir) -> Measures
     match (own, from) {
         (Dir::Yoko, Dir::Tate) => {
             let half = half(wd);
-            Measures { wd: ht.plus(dp), ht: wd.minus(half), dp: half }
+            Measures {
+                wd: ht.plus(dp),
+                ht: wd.minus(half),
+                dp: half,
+            }
         }
-        (Dir::Yoko, Dir::Dtou) => Measures { wd: ht.plus(dp), ht: wd, dp: Sp(0) },
-        (Dir::Tate | Dir::Dtou, Dir::Yoko) => Measures { wd: ht.plus(dp), ht: wd, dp: Sp(0) },
+        (Dir::Yoko, Dir::Dtou) => Measures {
+            wd: ht.plus(dp),
+            ht: wd,
+            dp: Sp(0),
+        },
+        (Dir::Tate | Dir::Dtou, Dir::Yoko) => Measures {
+            wd: ht.plus(dp),
+            ht: wd,
+            dp: Sp(0),
+        },
         (Dir::Tate, Dir::Dtou) | (Dir::Dtou, Dir::Tate) => Measures { wd, ht: dp, dp: ht },
         (Dir::Yoko, Dir::Yoko) | (Dir::Tate, Dir::Tate) | (Dir::Dtou, Dir::Dtou) => m,
     }
@@ -42,21 +54,21 @@ pub fn inner_point(m: Measures, own: Dir, p: Point, from: Dir) -> Point
     ensures inner { IsInnerPoint m own p from result }
     ensures value { result ≡ inner_point m own p from }
 {
-    crossed_point(m, own, p, from)
-}
-
-/// The inner point, from the table of the six crossings.
-fn crossed_point(m: Measures, own: Dir, p: Point, from: Dir) -> Point
-    requires m_within { MeasuresAreWithin m }
-    requires p_within { PointIsWithin p }
-    ensures { result ≡ inner_point m own p from }
-{
     let Point { x, y } = p;
     let Measures { wd, ht, dp } = m;
     match (own, from) {
-        (Dir::Yoko, Dir::Tate) => Point { x: x.minus(half(wd)), y: y.plus(ht) },
-        (Dir::Yoko, Dir::Dtou) => Point { x: x.minus(wd), y: y.minus(dp) },
-        (Dir::Tate, Dir::Yoko) => Point { x: x.plus(dp), y: y.minus(wd) },
+        (Dir::Yoko, Dir::Tate) => Point {
+            x: x.minus(half(wd)),
+            y: y.plus(ht),
+        },
+        (Dir::Yoko, Dir::Dtou) => Point {
+            x: x.minus(wd),
+            y: y.minus(dp),
+        },
+        (Dir::Tate, Dir::Yoko) => Point {
+            x: x.plus(dp),
+            y: y.minus(wd),
+        },
         (Dir::Tate, Dir::Dtou) => Point { x, y: y.minus(wd) },
         (Dir::Dtou, Dir::Yoko) => Point { x: x.plus(ht), y },
         (Dir::Dtou, Dir::Tate) => Point { x, y: y.plus(wd) },

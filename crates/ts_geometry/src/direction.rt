@@ -23,9 +23,18 @@ pub fn step(p: Point, dir: Dir, along: Sp, across: Sp) -> Point
     ensures { result ≡ step p dir along across }
 {
     match dir {
-        Dir::Yoko => Point { x: p.x.plus(along), y: p.y.plus(across) },
-        Dir::Tate => Point { x: p.x.minus(across), y: p.y.plus(along) },
-        Dir::Dtou => Point { x: p.x.plus(across), y: p.y.minus(along) },
+        Dir::Yoko => Point {
+            x: p.x.plus(along),
+            y: p.y.plus(across),
+        },
+        Dir::Tate => Point {
+            x: p.x.minus(across),
+            y: p.y.plus(along),
+        },
+        Dir::Dtou => Point {
+            x: p.x.plus(across),
+            y: p.y.minus(along),
+        },
     }
 }
 
@@ -38,8 +47,23 @@ pub fn rect(m: Measures, p: Point, dir: Dir) -> Rect
     let Point { x, y } = p;
     let Measures { wd, ht, dp } = m;
     match dir {
-        Dir::Yoko => Rect { left: x, top: y.minus(ht), right: x.plus(wd), bottom: y.plus(dp) },
-        Dir::Tate => Rect { left: x.minus(dp), top: y, right: x.plus(ht), bottom: y.plus(wd) },
-        Dir::Dtou => Rect { left: x.minus(ht), top: y.minus(wd), right: x.plus(dp), bottom: y },
+        Dir::Yoko => Rect {
+            left: x,
+            top: y.minus(ht),
+            right: x.plus(wd),
+            bottom: y.plus(dp),
+        },
+        Dir::Tate => Rect {
+            left: x.minus(dp),
+            top: y,
+            right: x.plus(ht),
+            bottom: y.plus(wd),
+        },
+        Dir::Dtou => Rect {
+            left: x.minus(ht),
+            top: y.minus(wd),
+            right: x.plus(dp),
+            bottom: y,
+        },
     }
 }

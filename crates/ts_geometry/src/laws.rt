@@ -1,5 +1,17 @@
-//! Laws of directions, over all whole numbers.
-ghost use Rattle.ts_geometry.specs.Laws.{StepsMoveRectangles, InnerPointsAreUnique, CrossingsKeepExtents, CrossingsMoveAlong, CrossingsNest, WaysOfSeeingAgree};
+//! Laws of numbers, directions and crossings, over all whole numbers.
+ghost use Rattle.ts_geometry.specs.Laws.{FloorsAreGreatest, NearestIsWithinHalf, StepsMoveRectangles, InnerPointsAreUnique, CrossingsKeepExtents, CrossingsMoveAlong, CrossingsNest, WaysOfSeeingAgree};
+
+/// A floor is the greatest whole number that isn't above the quotient.
+#[tactic(auto, using(crate::proofs::Quotients::floors_are_greatest, std::proofs::lemmas::Grind::common_steps))]
+pub fn a_floor_is_the_greatest_below()
+    ensures { FloorsAreGreatest }
+{}
+
+/// A rounded quotient is no more than half away, and halves are rounded upwards.
+#[tactic(auto, using(crate::proofs::Quotients::nearest_is_within_half, std::proofs::lemmas::Grind::common_steps))]
+pub fn the_nearest_is_within_half()
+    ensures { NearestIsWithinHalf }
+{}
 
 /// A box moves as its reference point does: where the point takes a step along and across in any
 /// direction, both corners of the box's rectangle take it.

@@ -8,9 +8,11 @@ mod glue;
 pub mod laws;
 mod measure;
 mod numbers;
+#[cfg(test)]
+mod tests;
 
 pub use crossing::{inner_point, seen};
-pub use direction::{rect, step, Dir};
+pub use direction::{Dir, rect, step};
 pub use fault::{BadKind, MetricFault};
 pub use glue::{Glue, Order};
 pub use measure::{Measures, Point, Rect, Sp};

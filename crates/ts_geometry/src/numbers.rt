@@ -8,20 +8,20 @@ const GREATEST_SHARE: i128 = 1_000_000_000;
 /// How many digits of a decimal fraction count (TeX: The Program, section 452).
 const DIGITS: usize = 17;
 
-/// How bad it is to make up for a shortfall `t` by a stretch `s`, or for an excess `t` by a shrink
-/// `s`, all in scaled points: about 100 (t / s)^3, and 10000 at most (TeX: The Program, section
-/// 108).
-pub fn badness(t: i64, s: i64) -> u16
-    requires low { pos 0 ≤ℤ t }
-    requires high { t ≤ℤ pos (2 ^ 60) }
-    ensures { result ≡ badness (unsigned_abs t) s }
+/// How bad it is to make up for a shortfall by this much stretch, or for an excess by this much
+/// shrink, both in scaled points: about 100 times the cube of their ratio, and 10000 at most (TeX:
+/// The Program, section 108).
+pub fn badness(shortfall: i64, stretch: i64) -> u16
+    requires low { pos 0 ≤ℤ shortfall }
+    requires high { shortfall ≤ℤ pos (2 ^ 60) }
+    ensures { result ≡ badness (unsigned_abs shortfall) stretch }
 {
-    if t == 0 {
+    if shortfall == 0 {
         0
-    } else if s <= 0 {
+    } else if stretch <= 0 {
         10_000
     } else {
-        badness_of_ratio(stretch_ratio(t.unsigned_abs(), s.unsigned_abs()))
+        badness_of_ratio(stretch_ratio(shortfall.unsigned_abs(), stretch.unsigned_abs()))
     }
 }
 
@@ -48,13 +48,13 @@ fn badness_of_ratio(ratio: u64) -> u16
     }
 }
 
-/// The number `f` of a metric file, which is in units of 2^-20 of the size, at a font's size `z` in
-/// scaled points, rounded down (TeX: The Program, section 571).
-pub fn scale(f: i32, z: u32) -> i64
-    requires { z < 2 ^ 23 }
-    ensures { result ≡ scale f z }
+/// A number of a metric file, which is in units of 2^-20 of the font's size, in scaled points,
+/// rounded down (TeX: The Program, sections 571 and 572).
+pub fn scale(fix_word: i32, size: u32) -> i64
+    requires { size < 2 ^ 23 }
+    ensures { result ≡ scale fix_word size }
 {
-    (i64::from(f) * i64::from(z)).div_euclid(1 << 20)
+    (i64::from(fix_word) * i64::from(size)).div_euclid(1 << 20)
 }
 
 /// The fraction that decimal digits spell, each as a number from 0 to 9, in units of 2^-16. Only
@@ -81,17 +81,17 @@ fn half_units_before(digit: u8, behind: u32) -> u32
     (behind + (1 << 17) * u32::from(digit)) / 10
 }
 
-/// How much of an excess falls to a stretch or shrink `t`, where all of them come to `total`:
-/// `t * excess / total`, rounded to the nearest whole number, halves away from zero, and no more
-/// than 10^9 from 0.
-pub fn share(t: i64, excess: i64, total: i64) -> i64
+/// How much of an excess falls to a part of the stretch or shrink, where all of it comes to
+/// `total`: `part * excess / total`, rounded to the nearest whole number, halves away from zero,
+/// and no more than 10^9 from 0. All are in scaled points.
+pub fn share(part: i64, excess: i64, total: i64) -> i64
     requires total_is_not_0 { total ≢ pos 0 }
-    requires t_within { IsWithin t }
+    requires part_within { IsWithin part }
     requires excess_within { IsWithin excess }
     requires total_within { IsWithin total }
-    ensures { result ≡ share t excess total }
+    ensures { result ≡ share part excess total }
 {
-    bounded(rounded(product(t, excess), total))
+    bounded(rounded(product(part, excess), total))
 }
 
 fn bounded(z: i128) -> i64
@@ -100,13 +100,13 @@ fn bounded(z: i128) -> i64
     z.clamp(-GREATEST_SHARE, GREATEST_SHARE) as i64
 }
 
-fn product(t: i64, excess: i64) -> i128
-    requires t_within { IsWithin t }
+fn product(part: i64, excess: i64) -> i128
+    requires part_within { IsWithin part }
     requires excess_within { IsWithin excess }
-    ensures value { result ≡ t *ℤ excess }
+    ensures value { result ≡ part *ℤ excess }
     ensures bound { unsigned_abs result ≤ 2 ^ 120 }
 {
-    i128::from(t) * i128::from(excess)
+    i128::from(part) * i128::from(excess)
 }
 
 /// `n / d`, rounded to the nearest whole number, halves away from zero.
