@@ -1,14 +1,12 @@
 -- Boxes in a list of another direction.
-use Rattle.std.proofs.Common.{◌≡◌, ◌↔◌, ℤ, ◌+ℤ◌, ◌-ℤ◌, refl, ap, arith, ◌∙◌, sym}
+use Rattle.std.proofs.Common.{◌≡◌, refl, ap, arith, ◌∙◌, sym}
 use Rattle.std.proofs.lemmas.Int.{ints}
 use Rattle.ts_geometry.specs.declared.direction.Dir.{Dir}
 use Rattle.ts_geometry.specs.declared.direction.Dir.TheVariants.{Yoko, Tate, Dtou}
-use Rattle.ts_geometry.specs.declared.measure.Sp.{Sp}
 use Rattle.ts_geometry.specs.declared.measure.Point.{Point}
 use Rattle.ts_geometry.specs.declared.measure.Measures.{Measures}
-use Rattle.ts_geometry.specs.declared.measure.Rect.{Rect}
-use Rattle.ts_geometry.specs.Directions.{sp, point, rectangle, step, rect, step_rect, extent}
-use Rattle.ts_geometry.specs.Crossings.{half, seen, inner_point, IsInnerPoint}
+use Rattle.ts_geometry.specs.Directions.{rect}
+use Rattle.ts_geometry.specs.Crossings.{seen, inner_point, IsInnerPoint}
 use Rattle.ts_geometry.specs.Laws.{InnerPointsAreUnique}
 use Rattle.ts_geometry.proofs.Moved.{same_rectangle, rect-injective}
 

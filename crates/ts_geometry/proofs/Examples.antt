@@ -1,8 +1,8 @@
 -- Small values of the definitions.
-use Rattle.std.proofs.Common.{◌≡◌, ℕ, [], ◌∷◌, refl, pos, negsuc, neg_ℤ}
+use Rattle.std.proofs.Common.{◌≡◌, [], ◌∷◌, refl, pos, negsuc}
 use Rattle.ts_geometry.specs.declared.direction.Dir.TheVariants.{Yoko, Tate, Dtou}
 use Rattle.ts_geometry.specs.declared.measure.Measures.{Measures}
-use Rattle.ts_geometry.specs.Numbers.{badness, scale, floor_div, decimal, share, rounded}
+use Rattle.ts_geometry.specs.Numbers.{badness, scale, decimal, share}
 use Rattle.ts_geometry.specs.Crossings.{measures, seen}
 
 badness-full : badness 100 (pos 100) ≡ 100

@@ -1,5 +1,5 @@
 -- Decimal fractions from the last digit on.
-use Rattle.std.proofs.Common.{◌≡◌, ℕ, ◌+◌, ◌-◌, ◌<◌, ◌≤◌, suc, zero, min, List, drop, take, length, get_or, refl, ap, arith, ◌∙◌, sym}
+use Rattle.std.proofs.Common.{◌≡◌, ℕ, ◌-◌, ◌<◌, ◌≤◌, suc, zero, List, drop, take, length, get_or, refl, arith}
 use Rattle.std.proofs.Math.Seq.{drop-cons}
 use Rattle.std.proofs.lemmas.List.{get_or-take, length-take}
 use Rattle.ts_geometry.specs.Numbers.{half_units, half_units_before}

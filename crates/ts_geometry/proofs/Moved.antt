@@ -1,13 +1,12 @@
 -- Boxes that move.
-use Rattle.std.proofs.Common.{◌≡◌, ◌↔◌, ℤ, ◌+ℤ◌, ◌-ℤ◌, refl, ap, arith, ◌∙◌, sym}
+use Rattle.std.proofs.Common.{◌≡◌, ℤ, ap, arith}
 use Rattle.std.proofs.lemmas.Int.{ints}
 use Rattle.ts_geometry.specs.declared.direction.Dir.{Dir}
 use Rattle.ts_geometry.specs.declared.direction.Dir.TheVariants.{Yoko, Tate, Dtou}
-use Rattle.ts_geometry.specs.declared.measure.Sp.{Sp}
 use Rattle.ts_geometry.specs.declared.measure.Point.{Point}
 use Rattle.ts_geometry.specs.declared.measure.Measures.{Measures}
 use Rattle.ts_geometry.specs.declared.measure.Rect.{Rect}
-use Rattle.ts_geometry.specs.Directions.{sp, point, rectangle, step, rect, step_rect, extent}
+use Rattle.ts_geometry.specs.Directions.{point, rectangle, rect}
 use Rattle.ts_geometry.specs.Laws.{StepsMoveRectangles}
 
 pub same_point : (a b a' b' : ℤ) → a ≡ a' → b ≡ b' → point a b ≡ point a' b'

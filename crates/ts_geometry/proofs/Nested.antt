@@ -1,16 +1,15 @@
 -- Boxes in lists in lists.
-use Rattle.std.proofs.Common.{◌≡◌, ◌↔◌, ℤ, ◌+ℤ◌, ◌-ℤ◌, refl, ap, arith, ◌∙◌, sym}
+use Rattle.std.proofs.Common.{◌≡◌, ap, arith, ◌∙◌, sym}
 use Rattle.std.proofs.lemmas.Int.{ints}
 use Rattle.ts_geometry.specs.declared.direction.Dir.{Dir}
 use Rattle.ts_geometry.specs.declared.direction.Dir.TheVariants.{Yoko, Tate, Dtou}
-use Rattle.ts_geometry.specs.declared.measure.Sp.{Sp}
 use Rattle.ts_geometry.specs.declared.measure.Point.{Point}
 use Rattle.ts_geometry.specs.declared.measure.Measures.{Measures}
 use Rattle.ts_geometry.specs.declared.measure.Rect.{Rect}
-use Rattle.ts_geometry.specs.Directions.{sp, point, rectangle, step, rect, step_rect, extent}
-use Rattle.ts_geometry.specs.Crossings.{half, seen, inner_point, IsInnerPoint}
-use Rattle.ts_geometry.specs.Laws.{CrossingsKeepExtents, CrossingsMoveAlong, CrossingsNest, WaysOfSeeingAgree, nested_point}
-use Rattle.ts_geometry.proofs.Moved.{same_point, same_rectangle, rect-injective, steps_move_rectangles}
+use Rattle.ts_geometry.specs.Directions.{step, rect, step_rect, extent}
+use Rattle.ts_geometry.specs.Crossings.{seen, inner_point}
+use Rattle.ts_geometry.specs.Laws.{CrossingsKeepExtents, CrossingsMoveAlong, CrossingsNest, WaysOfSeeingAgree}
+use Rattle.ts_geometry.proofs.Moved.{same_point, rect-injective, steps_move_rectangles}
 use Rattle.ts_geometry.proofs.Crossed.{rect-inner_point}
 
 -- what a box covers is as wide and high wherever it is set

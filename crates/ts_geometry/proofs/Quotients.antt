@@ -1,7 +1,6 @@
 -- Floors and rounded quotients.
-use Rattle.std.proofs.Common.{◌≡◌, ℕ, suc, ◌+◌, ◌*◌, ◌/◌, ◌%◌, ◌<◌, ◌≤◌, ℤ, pos, negsuc, ◌+ℤ◌, ◌*ℤ◌, ◌≤ℤ◌, ◌<ℤ◌, refl, ap, arith, ◌∙◌, sym}
+use Rattle.std.proofs.Common.{◌*◌, ◌<◌, pos, negsuc, arith}
 use Rattle.std.proofs.lemmas.Int.{ints}
-use Rattle.ts_geometry.specs.Numbers.{floor_div, nearest}
 use Rattle.ts_geometry.specs.Laws.{FloorsAreGreatest, NearestIsWithinHalf}
 
 pub nearest_is_within_half : NearestIsWithinHalf

@@ -1,5 +1,5 @@
 -- The arithmetic of typesetting, over all whole numbers.
-use Rattle.std.specs.Prelude.{ℕ, suc, ◌+◌, ◌*◌, ◌/◌, ◌^◌, ◌==◌, ◌≤◌, ℤ, pos, negsuc, ◌*ℤ◌, ◌≤ℤ◌, neg_ℤ, unsigned_abs, nat_lt, nat_le, int_le, List, [], ◌∷◌, take, if◌then◌else◌}
+use Rattle.std.specs.Prelude.{ℕ, suc, ◌+◌, ◌*◌, ◌/◌, ◌^◌, ◌==◌, ℤ, pos, negsuc, ◌*ℤ◌, ◌≤ℤ◌, neg_ℤ, unsigned_abs, nat_le, int_le, List, [], ◌∷◌, take, if◌then◌else◌}
 use Rattle.std.specs.Int.{int_min, int_max}
 
 -- the distances within which the calls of this crate work: 2^60 scaled points

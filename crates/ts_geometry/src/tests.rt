@@ -1,8 +1,13 @@
 //! Worked values.
+ghost use Rattle.std.specs.Prelude.{◌≡◌};
+ghost use Rattle.ts_geometry.specs.Directions.{point};
+ghost use Rattle.ts_geometry.specs.Crossings.{measures};
 
 use crate::*;
 
-fn measures(wd: i64, ht: i64, dp: i64) -> Measures {
+fn measures(wd: i64, ht: i64, dp: i64) -> Measures
+    ensures { result ≡ measures wd ht dp }
+{
     Measures {
         wd: Sp(wd),
         ht: Sp(ht),
@@ -10,7 +15,9 @@ fn measures(wd: i64, ht: i64, dp: i64) -> Measures {
     }
 }
 
-fn point(x: i64, y: i64) -> Point {
+fn point(x: i64, y: i64) -> Point
+    ensures { result ≡ point x y }
+{
     Point { x: Sp(x), y: Sp(y) }
 }
 
@@ -51,38 +58,47 @@ fn numbers_are_those_of_tex(rt: HostRuntime) {
 }
 
 #[test]
-fn a_box_covers_the_same_through_three_crossings(rt: HostRuntime) {
-    for (dir, want) in [
-        (Dir::Yoko, point(13, 25)),
-        (Dir::Tate, point(5, 23)),
-        (Dir::Dtou, point(15, 17)),
-    ] {
-        assert_eq!(rt; step(point(10, 20), dir, Sp(3), Sp(5)), want);
-    }
-    let own = measures(3, 5, 7);
-    let from_tate = seen(own, Dir::Yoko, Dir::Tate);
-    assert_eq!(rt; from_tate, measures(12, 2, 1));
-    let from_dtou = seen(from_tate, Dir::Tate, Dir::Dtou);
-    assert_eq!(rt; from_dtou, measures(12, 1, 2));
-    let from_yoko = seen(from_dtou, Dir::Dtou, Dir::Yoko);
-    assert_eq!(rt; from_yoko, measures(3, 12, 0));
+fn a_step_goes_along_and_across(rt: HostRuntime) {
+    assert_eq!(rt; step(point(10, 20), Dir::Yoko, Sp(3), Sp(5)), point(13, 25));
+    assert_eq!(rt; step(point(10, 20), Dir::Tate, Sp(3), Sp(5)), point(5, 23));
+    assert_eq!(rt; step(point(10, 20), Dir::Dtou, Sp(3), Sp(5)), point(15, 17));
+}
 
-    let in_yoko = point(0, 12);
-    let in_dtou = inner_point(from_dtou, Dir::Dtou, in_yoko, Dir::Yoko);
-    let in_tate = inner_point(from_tate, Dir::Tate, in_dtou, Dir::Dtou);
-    let inner = inner_point(own, Dir::Yoko, in_tate, Dir::Tate);
+#[test]
+fn a_box_is_seen_through_tate_and_dtou(rt: HostRuntime) {
+    assert_eq!(rt;
+        seen(measures(3, 5, 7), Dir::Yoko, Dir::Tate),
+        measures(12, 2, 1)
+    );
+    assert_eq!(rt;
+        seen(measures(12, 2, 1), Dir::Tate, Dir::Dtou),
+        measures(12, 1, 2)
+    );
+    assert_eq!(rt;
+        seen(measures(12, 1, 2), Dir::Dtou, Dir::Yoko),
+        measures(3, 12, 0)
+    );
+
     let covered = Rect {
         left: Sp(0),
         top: Sp(0),
         right: Sp(3),
         bottom: Sp(12),
     };
-    for (measures, point, dir) in [
-        (from_yoko, in_yoko, Dir::Yoko),
-        (from_dtou, in_dtou, Dir::Dtou),
-        (from_tate, in_tate, Dir::Tate),
-        (own, inner, Dir::Yoko),
-    ] {
-        assert_eq!(rt; rect(measures, point, dir), covered);
-    }
+    assert_eq!(rt; rect(measures(3, 12, 0), point(0, 12), Dir::Yoko), covered);
+    assert_eq!(rt;
+        inner_point(measures(12, 1, 2), Dir::Dtou, point(0, 12), Dir::Yoko),
+        point(1, 12)
+    );
+    assert_eq!(rt; rect(measures(12, 1, 2), point(1, 12), Dir::Dtou), covered);
+    assert_eq!(rt;
+        inner_point(measures(12, 2, 1), Dir::Tate, point(1, 12), Dir::Dtou),
+        point(1, 0)
+    );
+    assert_eq!(rt; rect(measures(12, 2, 1), point(1, 0), Dir::Tate), covered);
+    assert_eq!(rt;
+        inner_point(measures(3, 5, 7), Dir::Yoko, point(1, 0), Dir::Tate),
+        point(0, 5)
+    );
+    assert_eq!(rt; rect(measures(3, 5, 7), point(0, 5), Dir::Yoko), covered);
 }

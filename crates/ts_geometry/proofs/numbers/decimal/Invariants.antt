@@ -1,4 +1,4 @@
-use Rattle.std.proofs.Common.{◌≡◌, ◌<◌, ◌^◌, drop, take, ℕ}
+use Rattle.std.proofs.Common.{◌≡◌, ◌<◌, ◌^◌, drop, take}
 use Rattle.ts_geometry.specs.Numbers.{half_units}
 use Rattle.ts_geometry.proofs.numbers.decimal.Given as goal
 
