@@ -1,0 +1,4 @@
+pub mod Numbers
+pub mod Directions
+pub mod Crossings
+pub mod Laws

@@ -1,8 +1,27 @@
 //! Dimensions, points, and the measures of boxes.
+ghost use Rattle.std.specs.Prelude.{◌≡◌, ◌+ℤ◌, ◌-ℤ◌, FitsSigned};
+ghost use Rattle.std.specs.Int.{w64};
+ghost use Rattle.ts_geometry.specs.Directions.{sp};
 
 /// A dimension in scaled points, of which 65536 make one printer's point (The TeXbook, chapter 10).
 #[derive(Clone, Copy, Debug, PartialEq, Eq, PartialOrd, Ord, Hash)]
 pub struct Sp(pub i64);
+
+impl Sp {
+    pub(crate) fn plus(self, other: Sp) -> Sp
+        requires { FitsSigned w64 (self.0 +ℤ other.0) }
+        ensures { result ≡ sp (self.0 +ℤ other.0) }
+    {
+        Sp(self.0 + other.0)
+    }
+
+    pub(crate) fn minus(self, other: Sp) -> Sp
+        requires { FitsSigned w64 (self.0 -ℤ other.0) }
+        ensures { result ≡ sp (self.0 -ℤ other.0) }
+    {
+        Sp(self.0 - other.0)
+    }
+}
 
 /// A point of a page, in scaled points from the page's top left corner: `x` grows to the right and
 /// `y` downwards.

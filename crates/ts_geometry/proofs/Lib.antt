@@ -1,0 +1,6 @@
+pub mod Crossed
+pub mod Fractions
+pub mod Moved
+pub mod Nested
+pub mod Quotients
+mod Examples
