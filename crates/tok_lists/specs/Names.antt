@@ -1,6 +1,6 @@
 -- How names are numbered.
-use Rattle.std.specs.Prelude.{ℕ, Bool, not, nat_le, ◌&&◌, List, [], ◌∷◌, ◌++◌, length, if◌then◌else◌, Result, Ok, Err, slice_get, ◌≡◌, Some}
-use Rattle.std.specs.List.{list_any, position_or_len}
+use Rattle.std.specs.Prelude.{ℕ, Bool, not, nat_le, ◌&&◌, List, [], ◌∷◌, ◌++◌, length, if◌then◌else◌, Result, Ok, Err, slice_get, ◌≡◌, ◌≤◌, Some}
+use Rattle.std.specs.List.{list_any, position_or_len, IsDistinct}
 use Rattle.tok_lists.specs.declared.spelling.Spelling.{Spelling}
 use Rattle.tok_lists.specs.declared.fault.NamesFault.{NamesFault}
 use Rattle.tok_lists.specs.declared.fault.NamesFault.TheVariants.{NamesFull, NoMemory}
@@ -35,3 +35,8 @@ cause_of NoMemory = Free
 -- no spelling has two numbers
 abbrev pub HaveOneNumberEach : List Spelling → Type 0
 HaveOneNumberEach names = (m n : ℕ) (s : Spelling) → slice_get names m ≡ Some s → slice_get names n ≡ Some s → m ≡ n
+
+-- what is true of the names at all times
+pub record AreFewAndDistinct (names : List Spelling) : Type 0 where
+  pub few : length names ≤ most_names
+  pub distinct : IsDistinct is_same names

@@ -44,7 +44,7 @@ both_same a b h = λ i. record { active = h.0 i; chars = h.1 i }
 pub is_same-decides : (a b : Spelling) → Decides (is_same a b) (a ≡ b)
 is_same-decides a b =
     let d = Decides-and (beq a.active b.active) (pointwise is_same_char a.chars b.chars)
-        (booleans_Decides a.active b.active) (pointwise_decides is_same_char-decides a.chars b.chars) in
+    (booleans_Decides a.active b.active) (pointwise_decides is_same_char-decides a.chars b.chars) in
     (λ e. both_same a b (d.0 e), λ h. d.1 (ap (λ s. s.active) h, ap (λ s. s.chars) h))
 
 pub is_same-equiv : IsEquivalence is_same

@@ -4,7 +4,7 @@ ghost use Rattle.std.specs.Prelude.{◌≡◌, ◌<◌, ◌≤◌, [], length, m
 ghost use Rattle.std.specs.List.{IsDistinct};
 ghost use Rattle.ts_outside.specs.Agreement.{Agrees};
 ghost use Rattle.tok_lists.specs.Same.{is_same};
-ghost use Rattle.tok_lists.specs.Names.{number_in, with_name, numbered, cause_of, most_names, HaveOneNumberEach};
+ghost use Rattle.tok_lists.specs.Names.{number_in, with_name, numbered, cause_of, AreFewAndDistinct, HaveOneNumberEach};
 ghost use Rattle.tok_lists.specs.StartNames.{start_names, control_word};
 
 use crate::chars::Chars;
@@ -32,14 +32,15 @@ pub struct Names {
 }
 
 impl Model for Names {
-    ghost use Rattle.std.specs.Prelude.{List, length, ◌≤◌};
+    ghost use Rattle.std.specs.Prelude.{List};
     ghost use Rattle.tok_lists.specs.declared.spelling.Spelling.{Spelling};
+    ghost use Rattle.tok_lists.specs.Names.{AreFewAndDistinct};
 
     ghost Value = { List Spelling };
 
     ghost view = { λ n. n.spellings.keys };
 
-    ghost invariant = { λ n. length n.spellings.keys ≤ 50000 };
+    ghost invariant = { λ n. AreFewAndDistinct n.spellings.keys };
 }
 
 /// A control word of these characters.
@@ -61,6 +62,8 @@ fn enter(spellings: &mut IndexSet<Spelling>, spelling: Spelling) -> Result<usize
     ensures number { IfOk result (λ n. n ≡ number_in spellings.old.keys spelling) }
     ensures ok { OnOk result (spellings.new.keys ≡ with_name spellings.old.keys spelling) }
     ensures err { OnErr result (spellings.new.keys ≡ spellings.old.keys) }
+    ensures within { IfOk result (λ n. n < length spellings.new.keys) }
+    ensures distinct { IsDistinct is_same spellings.new.keys }
 {
     match spellings.insert_full(spelling) {
         Ok((number, _)) => Ok(number),
@@ -70,7 +73,8 @@ fn enter(spellings: &mut IndexSet<Spelling>, spelling: Spelling) -> Result<usize
 
 /// The control words of these texts, in their order, each once.
 fn spellings_of(alloc: Global, words: &[&str]) -> Result<IndexSet<Spelling>, NoMemory>
-    ensures { IfOk result (λ s. s.keys ≡ fold with_name [] (map (λ w. control_word w.now) words.now)) }
+    ensures keys { IfOk result (λ s. s.keys ≡ fold with_name [] (map (λ w. control_word w.now) words.now)) }
+    ensures distinct { IfOk result (λ s. IsDistinct is_same s.keys) }
 {
     let mut spellings = IndexSet::new(alloc);
     for word in words {
@@ -88,17 +92,18 @@ fn blank(alloc: Global) -> Spelling {
 }
 
 /// The number of the spelling that is sought, which is taken where it is new.
+#[tactic(auto, using(crate::proofs::Numbered::spelt))]
 fn number_of(
     alloc: Global,
     spellings: &mut IndexSet<Spelling>,
     sought: &mut Spelling,
 ) -> Result<NameNo, NamesFault>
-    requires { length spellings.old.keys ≤ most_names }
+    requires { AreFewAndDistinct spellings.old.keys }
     ensures number { Agrees (λ n. n.0) cause_of result (numbered spellings.old.keys sought.old) }
     ensures ok { OnOk result (spellings.new.keys ≡ with_name spellings.old.keys sought.old) }
     ensures err { OnErr result (spellings.new.keys ≡ spellings.old.keys) }
-    ensures most { length spellings.new.keys ≤ most_names }
-    ensures distinct { IsDistinct is_same spellings.new.keys }
+    ensures spelt { IfOk result (λ n. slice_get spellings.new.keys n.0 ≡ Some sought.old) }
+    ensures few { AreFewAndDistinct spellings.new.keys }
 {
     if let Some(number) = spellings.get_index_of(&*sought) {
         return Ok(NameNo(number as u32));
@@ -150,5 +155,58 @@ impl Names {
         ensures distinct { HaveOneNumberEach self.now }
     {
         &self.spellings.as_slice()[name.0 as usize]
+    }
+}
+
+#[cfg(test)]
+mod tests {
+    use super::*;
+    use jis_codes::Cell;
+    use std::test::Fail;
+
+    fn numbers(
+        names: &mut Names,
+        alloc: Global,
+        active: bool,
+        word: &str,
+    ) -> Result<NameNo, NamesFault> {
+        match control_word_of(alloc, word) {
+            Ok(spelling) => names.intern(active, spelling.chars.as_slice()),
+            Err(_) => Err(NamesFault::NoMemory),
+        }
+    }
+
+    #[test]
+    fn start_names_have_their_numbers(rt: HostRuntime) -> Result<(), Fail> {
+        let mut names = Names::new(rt.alloc())?;
+        for (word, number) in [
+            ("expandafter", 0),
+            ("def", 34),
+            ("relax", 69),
+            ("output", 137),
+        ] {
+            assert_eq!(rt;
+                numbers(&mut names, rt.alloc(), false, word),
+                Ok(NameNo(number))
+            );
+        }
+        Ok(())
+    }
+
+    #[test]
+    fn new_names_get_the_next_numbers(rt: HostRuntime) -> Result<(), Fail> {
+        let mut names = Names::new(rt.alloc())?;
+        let kanji = Char::Ja(Cell::new(20, 33).ok_or("no cell")?);
+        let spellings = [
+            (false, Char::One(b'a'), 138),
+            (true, Char::One(b'a'), 139),
+            (false, kanji, 140),
+            (false, Char::One(b'a'), 138),
+            (true, Char::One(b'a'), 139),
+        ];
+        for (active, character, number) in spellings {
+            assert_eq!(rt; names.intern(active, &[character]), Ok(NameNo(number)));
+        }
+        Ok(())
     }
 }
