@@ -49,4 +49,15 @@ impl Chars {
     {
         self.items.as_slice()
     }
+
+    /// Makes it the list of these characters. Refused, it is empty.
+    pub(crate) fn refill(&mut self, chars: &[Char]) -> Result<(), NoMemory>
+        ensures { OnOk result (self.new ≡ chars.now) }
+    {
+        self.items.clear();
+        match self.items.extend_from_slice(chars) {
+            Ok(()) => Ok(()),
+            Err(_) => Err(NoMemory),
+        }
+    }
 }

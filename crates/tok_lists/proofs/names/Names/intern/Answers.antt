@@ -1,0 +1,10 @@
+use Rattle.std.proofs.Common.{subst, sym, ◌≡◌, rules}
+use Rattle.tok_lists.proofs.Numbered.{one_number}
+use Rattle.tok_lists.specs.Names.{HaveOneNumberEach}
+use Rattle.tok_lists.proofs.names.Names.intern.Goals as goal
+
+pub returns-then-is_err-clause-distinct : goal.returns-then-is_err-clause-distinct
+returns-then-is_err-clause-distinct c = one_number _ c.self.invariant.distinct
+
+pub returns-clause-distinct : goal.returns-clause-distinct
+returns-clause-distinct c = one_number _ c.number_of.ensures.few.distinct
