@@ -1,1 +1,4 @@
 mod Examples
+pub mod Stable
+pub mod Leading
+pub mod Drawing

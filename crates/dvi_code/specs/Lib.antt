@@ -4,3 +4,4 @@ pub mod Commands
 pub mod Places
 pub mod Structure
 pub mod Pages
+pub mod Reading
