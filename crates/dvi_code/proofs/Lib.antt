@@ -2,3 +2,4 @@ mod Examples
 pub mod Stable
 pub mod Leading
 pub mod Drawing
+pub mod Saying
