@@ -1,0 +1,5 @@
+mod Examples
+pub mod Stable
+pub mod Leading
+pub mod Drawing
+pub mod Saying

@@ -1,0 +1,7 @@
+pub mod Endings
+pub mod Fields
+pub mod Commands
+pub mod Places
+pub mod Structure
+pub mod Pages
+pub mod Reading

@@ -1,0 +1,118 @@
+-- The pages of marks that a DVI file means (TeX: The Program, sections 585 to 586): a second pass over the commands of each
+-- page, with the widths of characters and the positions.
+use Rattle.std.specs.Prelude.{ℕ, ◌+◌, List, [], ◌∷◌, ◌++◌, Result, Ok, Err, Option, Some, None, ℤ, pos, ◌+ℤ◌, neg_ℤ, int_le, Bool, ◌&&◌, if◌then◌else◌, get_or}
+use Rattle.ts_geometry.specs.declared.measure.Sp.{Sp}
+use Rattle.ts_geometry.specs.declared.measure.Point.{Point}
+use Rattle.ts_geometry.specs.declared.direction.Dir.{Dir}
+use Rattle.ts_geometry.specs.declared.direction.Dir.TheVariants.{Yoko, Tate, Dtou}
+use Rattle.ts_outside.specs.Agreement.{◌>>=◌}
+use Rattle.dvi_code.specs.declared.fault.DviKind.{DviKind}
+use Rattle.dvi_code.specs.declared.fault.DviKind.TheVariants as kinds
+use Rattle.dvi_code.specs.declared.fault.DviBad.{DviBad}
+use Rattle.dvi_code.specs.declared.font.FontDef.{FontDef}
+use Rattle.dvi_code.specs.declared.mark.What.TheVariants.{Glyph}
+use Rattle.dvi_code.specs.declared.mark.Mark.{Mark}
+use Rattle.dvi_code.specs.declared.page.DviPage.{DviPage}
+use Rattle.dvi_code.specs.Commands as c
+use Rattle.dvi_code.specs.Commands.{Command}
+use Rattle.dvi_code.specs.Structure.{font_of, Sheet, structure, fault_at}
+
+-- the width of a character of a font at its size, if the font has it
+abbrev pub Widths : Type 0
+Widths = FontDef → ℕ → Option Sp
+
+-- what push saves: the point and the direction
+pub record Spot : Type 0 where
+  pub at : Point
+  pub dir : Dir
+
+-- where the next mark is set, what was pushed, the last first, the chosen font, and the marks so far
+pub record Pen : Type 0 where
+  pub spot : Spot
+  pub saved : List Spot
+  pub chosen : Option FontDef
+  pub marks : List Mark
+
+abbrev pub spot : ℤ → ℤ → Dir → Spot
+spot x y dir = record { at = record { x = record { 0 = x }; y = record { 0 = y } }; dir = dir }
+
+-- the pen at bop
+abbrev pub clean : Pen
+clean = record { spot = spot (pos 0) (pos 0) Yoko; saved = []; chosen = None; marks = [] }
+
+-- a step along and a step across in a direction: yoko goes right and down, tate down and left, dtou up and right
+abbrev pub to_the_right : Dir → ℤ → ℤ → ℤ
+to_the_right Yoko along across = along
+to_the_right Tate along across = neg_ℤ across
+to_the_right Dtou along across = across
+
+abbrev pub downwards : Dir → ℤ → ℤ → ℤ
+downwards Yoko along across = across
+downwards Tate along across = along
+downwards Dtou along across = neg_ℤ along
+
+abbrev pub stepped : Spot → ℤ → ℤ → Spot
+stepped s along across = spot (s.at.x.0 +ℤ to_the_right s.dir along across) (s.at.y.0 +ℤ downwards s.dir along across) s.dir
+
+abbrev pub is_in_range : ℤ → Bool
+is_in_range z = int_le (neg_ℤ (pos 2147483647)) z && int_le z (pos 2147483647)
+
+-- the pen with marks more and then at a new spot
+abbrev pub moved : Pen → Spot → List Mark → Result Pen DviKind
+moved p s more =
+    if is_in_range s.at.x.0 && is_in_range s.at.y.0 then Ok (record { spot = s; saved = p.saved; chosen = p.chosen; marks = p.marks ++ more })
+    else Err kinds.Range
+
+abbrev pub glyph : FontDef → ℕ → Spot → Mark
+glyph f code s = record { what = Glyph f.name f.size code; at = s.at; dir = s.dir }
+
+-- a glyph of a width
+abbrev pub glyph_set : Pen → FontDef → ℕ → Option Sp → Result Pen DviKind
+glyph_set p f code None = Err kinds.Width
+glyph_set p f code (Some width) = moved p (stepped p.spot width.0 (pos 0)) (glyph f code p.spot ∷ [])
+
+abbrev pub set_by : Widths → Pen → ℕ → Option FontDef → Result Pen DviKind
+set_by widths p code None = Err kinds.FontUndefined
+set_by widths p code (Some f) = glyph_set p f code (widths f code)
+
+abbrev pub back_to : Pen → List Spot → Result Pen DviKind
+back_to p [] = Err kinds.Stack
+back_to p (s ∷ ss) = Ok (record { spot = s; saved = ss; chosen = p.chosen; marks = p.marks })
+
+-- a command of a page's body
+unfoldable pub drawn : Widths → List FontDef → Pen → Command → Result Pen DviKind
+drawn widths fonts p (c.set code) = set_by widths p code p.chosen
+drawn widths fonts p c.push = Ok (record { spot = p.spot; saved = p.spot ∷ p.saved; chosen = p.chosen; marks = p.marks })
+drawn widths fonts p c.pop = back_to p p.saved
+drawn widths fonts p (c.right n) = moved p (stepped p.spot n (pos 0)) []
+drawn widths fonts p (c.down n) = moved p (stepped p.spot (pos 0) n) []
+drawn widths fonts p (c.font n) = Ok (record { spot = p.spot; saved = p.saved; chosen = font_of fonts n; marks = p.marks })
+drawn widths fonts p _ = Err kinds.Misplaced
+
+-- a fault with the number of commands before it
+abbrev pub counted : ℕ → Result Pen DviKind → Result Pen (ℕ × DviKind)
+counted before (Ok p) = Ok p
+counted before (Err kind) = Err (before, kind)
+
+-- commands one after the other, behind so many
+unfoldable pub all_drawn : Widths → List FontDef → ℕ → Pen → List Command → Result Pen (ℕ × DviKind)
+all_drawn widths fonts before p [] = Ok p
+all_drawn widths fonts before p (cmd ∷ cmds) = counted before (drawn widths fonts p cmd) >>= λ q. all_drawn widths fonts (before + 1) q cmds
+
+abbrev pub page_from : Sheet → Result Pen (ℕ × DviKind) → Result DviPage DviBad
+page_from s (Ok p) = Ok (record { counts = s.counts; marks = p.marks })
+page_from s (Err fault) = Err (fault_at (get_or s.places fault.0 0) fault.1)
+
+abbrev pub page_of : Widths → Sheet → Result DviPage DviBad
+page_of widths s = page_from s (all_drawn widths s.fonts 0 clean s.body)
+
+unfoldable pub pages_of : Widths → List Sheet → Result (List DviPage) DviBad
+pages_of widths [] = Ok []
+pages_of widths (s ∷ ss) = do
+  first ← page_of widths s
+  others ← pages_of widths ss
+  Ok (first ∷ others)
+
+-- the pages of a file, or its first fault, those of the structure before any other
+abbrev pub file_pages : Widths → List ℕ → Result (List DviPage) DviBad
+file_pages widths bytes = structure bytes >>= λ s. pages_of widths s.sheets

@@ -1,0 +1,27 @@
+-- Bytes that say commands, and where reading stands behind them, whatever follows. So a file can be read piece by piece.
+use Rattle.std.specs.Prelude.{◌≡◌, ℕ, ◌+◌, List, [], ◌∷◌, ◌++◌, length, Result, Ok}
+use Rattle.ts_outside.specs.Agreement.{◌>>=◌}
+use Rattle.dvi_code.specs.declared.fault.DviKind.{DviKind}
+use Rattle.dvi_code.specs.declared.font.FontDef.{FontDef}
+use Rattle.dvi_code.specs.Commands.{Command, command}
+use Rattle.dvi_code.specs.Places.{placed}
+use Rattle.dvi_code.specs.Structure.{Shape, walk, Inside, inside}
+use Rattle.dvi_code.specs.Pages.{Widths, Pen, all_drawn}
+
+-- The bytes say these commands and no more.
+abbrev pub Spells : List ℕ → List Command → Type 0
+Spells bytes [] = bytes ≡ []
+Spells bytes (c ∷ cs) = (front : List ℕ) × (rest : List ℕ) × (bytes ≡ front ++ rest) × (command front ≡ Ok (c, [])) × Spells rest cs
+
+-- From the structure s at a place the bytes lead to t, whatever follows them.
+pub record Leads (at : ℕ) (s : Shape) (bytes : List ℕ) (t : Shape) : Type 0 where
+  pub on : (more : List ℕ) → walk s (placed at 0 (bytes ++ more)) ≡ walk t (placed (at + length bytes) 0 more)
+
+-- the commands of a page one after the other, wherever the page stands
+abbrev pub all_inside : List FontDef → Inside → List Command → Result Inside DviKind
+all_inside fonts i [] = Ok i
+all_inside fonts i (c ∷ cs) = inside fonts i c >>= λ j. all_inside fonts j cs
+
+-- The commands take the pen from p to q.
+pub record Draws (widths : Widths) (fonts : List FontDef) (p : Pen) (cs : List Command) (q : Pen) : Type 0 where
+  pub on : (before : ℕ) → all_drawn widths fonts before p cs ≡ Ok q
