@@ -1,0 +1,67 @@
+//! The halfwords and words of a metric file, the high byte first (TeX: The Program, section 540).
+
+ghost use Rattle.std.specs.Prelude.{◌≡◌, ◌+◌, ◌*◌, ◌≤◌, length};
+ghost use Rattle.std.specs.Prelude.{◌<◌};
+
+
+ghost use Rattle.jfm_load.specs.Words as spec;
+
+use byteorder::{BigEndian, ByteOrder};
+use ts_geometry::{BadKind, MetricFault};
+
+/// The halfword of that number, counted from 0.
+#[tactic(auto, unfolding(crate::specs::Words::halfword))]
+pub(crate) fn halfword(bytes: &[u8], i: usize) -> u16
+    requires { 2 * i + 2 ≤ length bytes.now }
+    ensures { result ≡ spec.halfword bytes.now i }
+{
+    BigEndian::read_u16(&bytes[2 * i..])
+}
+
+/// The word of that number, counted from 0.
+#[tactic(auto, unfolding(crate::specs::Words::word))]
+pub(crate) fn word(bytes: &[u8], i: usize) -> u32
+    requires { 4 * i + 4 ≤ length bytes.now }
+    ensures { result ≡ spec.word bytes.now i }
+{
+    BigEndian::read_u32(&bytes[4 * i..])
+}
+
+pub(crate) fn first_byte(word: u32) -> u8
+    ensures { result ≡ spec.first_byte word }
+{
+    (word / 0x100_0000) as u8
+}
+
+pub(crate) fn second_byte(word: u32) -> u8
+    ensures { result ≡ spec.second_byte word }
+{
+    (word / 0x1_0000 % 0x100) as u8
+}
+
+pub(crate) fn third_byte(word: u32) -> u8
+    ensures { result ≡ spec.third_byte word }
+{
+    (word / 0x100 % 0x100) as u8
+}
+
+pub(crate) fn fourth_byte(word: u32) -> u8
+    ensures { result ≡ spec.fourth_byte word }
+{
+    (word % 0x100) as u8
+}
+
+/// The first two bytes of a word.
+pub(crate) fn first_half(word: u32) -> u16
+    ensures { result ≡ spec.first_half word }
+{
+    (word / 0x1_0000) as u16
+}
+
+/// The fault of the word of that number.
+pub(crate) fn bad(kind: BadKind, i: usize) -> MetricFault
+    requires { i < 65536 }
+    ensures { result ≡ MetricFault.Bad kind (4 * i) }
+{
+    MetricFault::Bad(kind, 4 * i as u32)
+}
