@@ -1,59 +1,56 @@
 //! The halfwords and words of a metric file, the high byte first (TeX: The Program, section 540).
 
-ghost use Rattle.std.specs.Prelude.{◌≡◌, ◌+◌, ◌*◌, ◌≤◌, length};
-ghost use Rattle.std.specs.Prelude.{◌<◌};
-
-
-ghost use Rattle.jfm_load.specs.Words as spec;
+ghost use Rattle.std.specs.Prelude.{◌≡◌, ◌+◌, ◌*◌, ◌≤◌, ◌<◌, length};
+ghost use Rattle.jfm_load.specs.Words.{halfword, word as word_of, first_byte as first_of, second_byte as second_of, third_byte as third_of, fourth_byte as fourth_of, first_half as first_half_of};
 
 use byteorder::{BigEndian, ByteOrder};
 use ts_geometry::{BadKind, MetricFault};
 
 /// The halfword of that number, counted from 0.
 #[tactic(auto, unfolding(crate::specs::Words::halfword))]
-pub(crate) fn halfword(bytes: &[u8], i: usize) -> u16
+pub(crate) fn halfword_at(bytes: &[u8], i: usize) -> u16
     requires { 2 * i + 2 ≤ length bytes.now }
-    ensures { result ≡ spec.halfword bytes.now i }
+    ensures { result ≡ halfword bytes.now i }
 {
     BigEndian::read_u16(&bytes[2 * i..])
 }
 
 /// The word of that number, counted from 0.
 #[tactic(auto, unfolding(crate::specs::Words::word))]
-pub(crate) fn word(bytes: &[u8], i: usize) -> u32
+pub(crate) fn word_at(bytes: &[u8], i: usize) -> u32
     requires { 4 * i + 4 ≤ length bytes.now }
-    ensures { result ≡ spec.word bytes.now i }
+    ensures { result ≡ word_of bytes.now i }
 {
     BigEndian::read_u32(&bytes[4 * i..])
 }
 
 pub(crate) fn first_byte(word: u32) -> u8
-    ensures { result ≡ spec.first_byte word }
+    ensures { result ≡ first_of word }
 {
     (word / 0x100_0000) as u8
 }
 
 pub(crate) fn second_byte(word: u32) -> u8
-    ensures { result ≡ spec.second_byte word }
+    ensures { result ≡ second_of word }
 {
     (word / 0x1_0000 % 0x100) as u8
 }
 
 pub(crate) fn third_byte(word: u32) -> u8
-    ensures { result ≡ spec.third_byte word }
+    ensures { result ≡ third_of word }
 {
     (word / 0x100 % 0x100) as u8
 }
 
 pub(crate) fn fourth_byte(word: u32) -> u8
-    ensures { result ≡ spec.fourth_byte word }
+    ensures { result ≡ fourth_of word }
 {
     (word % 0x100) as u8
 }
 
 /// The first two bytes of a word.
 pub(crate) fn first_half(word: u32) -> u16
-    ensures { result ≡ spec.first_half word }
+    ensures { result ≡ first_half_of word }
 {
     (word / 0x1_0000) as u16
 }
