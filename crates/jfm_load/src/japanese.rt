@@ -5,7 +5,12 @@ ghost use Rattle.ts_outside.specs.Agreement.{Agrees};
 ghost use Rattle.jfm_load.specs.Metrics.{metric_of, class_of, measures_of, param_of, cause};
 ghost use Rattle.jfm_load.specs.Sound.{IsWithin};
 
+use crate::lengths::read_lengths;
+use crate::parts::{
+    check_table, read_char_infos, read_char_types, read_design, read_params, read_table,
+};
 use crate::tables::{CharInfo, CharType};
+use crate::words::word_at;
 use jis_codes::Cell;
 use std::alloc::Global;
 use std::marker::Model;
@@ -39,10 +44,30 @@ impl Model for Japanese {
 
 /// The metric that a JFM spells, or its first fault. Bytes after the words that it counts are
 /// ignored.
+#[tactic(auto, unfolding(crate::specs::Metrics::metric_of))]
 pub fn read(alloc: Global, bytes: &[u8]) -> Result<Japanese, MetricFault>
     ensures { Agrees (λ j. j) cause result (metric_of bytes.now) }
 {
-    Err(MetricFault::NoMemory)
+    let lengths = read_lengths(bytes)?;
+    let design = read_design(bytes)?;
+    let char_types = read_char_types(alloc, bytes, &lengths)?;
+    let char_infos = read_char_infos(alloc, bytes, &lengths)?;
+    let widths = read_table(alloc, bytes, lengths.width_start(), usize::from(lengths.nw))?;
+    let heights = read_table(alloc, bytes, lengths.height_start(), usize::from(lengths.nh))?;
+    let depths = read_table(alloc, bytes, lengths.depth_start(), usize::from(lengths.nd))?;
+    check_table(bytes, lengths.italic_start(), usize::from(lengths.ni))?;
+    let params = read_params(alloc, bytes, lengths.param_start(), usize::from(lengths.np))?;
+    Ok(Japanese {
+        is_tate: lengths.id == 9,
+        check_sum: word_at(bytes, 7),
+        design,
+        char_types,
+        char_infos,
+        widths,
+        heights,
+        depths,
+        params,
+    })
 }
 
 impl Japanese {
