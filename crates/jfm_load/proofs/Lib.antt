@@ -1,0 +1,3 @@
+mod Examples
+pub mod SoundParts
+pub mod PartsLeft

@@ -1,0 +1,10 @@
+//! Metrics of Japanese fonts: JFM files (the JFM specification), without glue and kerns.
+#![tactic(auto)]
+
+mod japanese;
+mod lengths;
+mod parts;
+mod tables;
+mod words;
+
+pub use japanese::{Japanese, read};
