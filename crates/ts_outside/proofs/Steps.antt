@@ -1,9 +1,8 @@
 -- One call after another: what they agree with, what they count, and what a sink gains by them.
-use Rattle.std.proofs.Common.{◌≡◌, ℕ, ◌+◌, ◌-◌, ◌≤◌, ◌<◌, List, [], ◌∷◌, ◌++◌, length, take, drop, Option, Some, None, Result, Ok, Err, refl, sym, ap, ◌∙◌, append_assoc, arith, length-drop}
-use Rattle.std.specs.Prelude.{option_map}
+use Rattle.std.proofs.Common.{◌≡◌, ℕ, ◌+◌, ◌-◌, List, ◌++◌, length, take, drop, Option, Some, None, Result, Ok, refl, ◌∙◌, append_assoc, arith, length-drop}
 use Rattle.std.proofs.Math.Seq.{take-add}
 use Rattle.std.proofs.lemmas.List.{take_all}
-use Rattle.ts_outside.specs.Agreement.{Cause, Determined, Counted, Free, ◌>>=◌, AgreesFault, Rose, CountsFault}
+use Rattle.ts_outside.specs.Agreement.{Cause, Determined, Counted, Free, ◌>>=◌, AgreesFault, CountsFault}
 use Rattle.ts_outside.specs.Gaining.{Gained}
 
 -- A first step that refuses ends both, and agrees with both.

@@ -2,7 +2,6 @@
 use Rattle.std.specs.Prelude.{◌≡◌, ◌≢◌, ℕ, ◌≤◌, List, [], ◌∷◌, length, take, drop, Bool, true, false, Option, Some, None, if◌then◌else◌}
 use Rattle.std.specs.Str.{bytes_eq}
 use Rattle.ts_outside.specs.Agreement.{Rose}
-use Rattle.ts_outside.specs.declared.files.FileNo.{FileNo}
 use Rattle.ts_outside.specs.declared.files.Opened.{Opened}
 use Rattle.ts_outside.specs.declared.files.Opened.TheVariants as opened
 use Rattle.ts_outside.specs.declared.files.Got.{Got}

@@ -8,7 +8,8 @@ ghost use Rattle.ts_outside.specs.Holding.{held_of, bytes_at, seat_left};
 use crate::files::{FileNo, Files, Got, Opened};
 use crate::name::FileName;
 use crate::script::{count_on, cut_of, fails_at_call};
-use std::alloc::{AllocError, Global};
+use crate::slots::{add_open, set_open};
+use std::alloc::Global;
 use std::marker::Model;
 
 /// A file that is held in memory.
@@ -96,45 +97,6 @@ fn rest_of(files: &[MemFile], seat: Seat) -> &[u8]
     }
 }
 
-// The first number that no open file has.
-fn free_number(seats: &[Option<Seat>]) -> usize
-    ensures free { get_or seats.now result None ≡ None }
-    ensures within { result ≤ length seats.now }
-{
-    for (n, seat) in seats.iter().enumerate() {
-        if seat.is_none() {
-            return n;
-        }
-    }
-    seats.len()
-}
-
-// Puts an open file, or none, under a number.
-fn set_seat(seats: &mut Vec<Option<Seat>>, n: usize, seat: Option<Seat>)
-    requires { n < length seats.old.items }
-    ensures here { get_or seats.new.items n None ≡ seat }
-    ensures others { (k : ℕ) → k ≢ n → get_or seats.new.items k None ≡ get_or seats.old.items k None }
-    ensures len { length seats.new.items ≡ length seats.old.items }
-{
-    seats[n] = seat;
-}
-
-// Puts an open file under a number that no open file has.
-fn add_seat(seats: &mut Vec<Option<Seat>>, seat: Seat) -> Result<usize, AllocError>
-    ensures fresh { IfOk result (λ n. get_or seats.old.items n None ≡ None) }
-    ensures here { IfOk result (λ n. get_or seats.new.items n None ≡ Some seat) }
-    ensures others { IfOk result
-        (λ n. (k : ℕ) → k ≢ n → get_or seats.new.items k None ≡ get_or seats.old.items k None) }
-    ensures err { OnErr result ((k : ℕ) → get_or seats.new.items k None ≡ get_or seats.old.items k None) }
-{
-    let n = free_number(seats);
-    if n == seats.len() {
-        seats.push(None)?;
-    }
-    set_seat(seats, n, Some(seat));
-    Ok(n)
-}
-
 // Gives the next bytes of an open file, as many as the buffer has room for.
 fn give(files: &[MemFile], seats: &mut Vec<Option<Seat>>, n: usize, buffer: &mut [u8]) -> Got
     requires number { is_some (get_or seats.old.items n None) ≡ true }
@@ -156,7 +118,7 @@ fn give(files: &[MemFile], seats: &mut Vec<Option<Seat>>, n: usize, buffer: &mut
     let count = buffer.len().min(rest.len());
     buffer[..count].copy_from_slice(&rest[..count]);
     let place = seat.place + count;
-    set_seat(
+    set_open(
         seats,
         n,
         Some(Seat {
@@ -218,7 +180,7 @@ impl Files for MemFiles {
         let Some(file) = find(&self.held, name) else {
             return Opened::Missing;
         };
-        let Ok(n) = add_seat(&mut self.seats, Seat { file, place: 0 }) else {
+        let Ok(n) = add_open(&mut self.seats, Seat { file, place: 0 }) else {
             return Opened::NoMemory;
         };
         Opened::Found(FileNo(n))
@@ -267,6 +229,6 @@ impl Files for MemFiles {
         ensures cuts { self.new.cuts ≡ self.old.cuts }
         ensures plan { self.new.fails ≡ self.old.fails }
     {
-        set_seat(&mut self.seats, file.0, None);
+        set_open(&mut self.seats, file.0, None);
     }
 }

@@ -1,9 +1,10 @@
 use crate::{
-    FileName, Files, Got, MemFile, MemFiles, MemSink, NameFault, Opened, Put, PutFault, Sink,
-    put_all,
+    DiskFiles, FileName, Files, Got, MemFile, MemFiles, MemSink, NameFault, Opened, Put, PutFault,
+    Sink, StreamSink, put_all,
 };
 use std::alloc::Global;
 use std::test::Fail;
+use std::{fs, io};
 
 fn file(alloc: Global, name: &[u8], bytes: &[u8]) -> Result<MemFile, Fail> {
     Ok(MemFile {
@@ -95,5 +96,48 @@ fn sinks_in_memory(rt: HostRuntime) -> Result<(), Fail> {
     }
     let mut sink = MemSink::new(rt.alloc(), Vec::new(rt.alloc()), Vec::new(rt.alloc()));
     assert_eq!(rt; sink.put(b"xy"), Put::Took(2));
+    Ok(())
+}
+
+#[test]
+fn files_of_the_disk(rt: HostRuntime) -> Result<(), Fail> {
+    fs::write(&rt, "outside.txt", b"abc")?;
+    let name = FileName::new(rt.alloc(), b"outside.txt")?;
+    let absent = FileName::new(rt.alloc(), b"absent.txt")?;
+    let alloc = rt.alloc();
+    let mut files = DiskFiles::new(rt.clone()?, alloc);
+    assert_eq!(rt; files.open(&absent), Opened::Missing);
+    let Opened::Found(file) = files.open(&name) else {
+        return Err(Fail::from("not found"));
+    };
+    let mut buffer = [0u8; 2];
+    assert_eq!(rt; files.read(file, &mut buffer), Got::Bytes(2));
+    assert_eq!(rt; buffer, *b"ab");
+    assert_eq!(rt; files.read(file, &mut buffer), Got::Bytes(1));
+    assert_eq!(rt; buffer[0], b'c');
+    assert_eq!(rt; files.read(file, &mut buffer), Got::End);
+    files.close(file);
+    Ok(())
+}
+
+#[derive(Drop)]
+struct Full;
+
+impl io::Write for Full {
+    fn write(&mut self, _buf: &[u8]) -> io::Result<usize> {
+        Ok(0)
+    }
+
+    fn flush(&mut self) -> io::Result<()> {
+        Ok(())
+    }
+}
+
+#[test]
+fn sinks_over_writers(rt: HostRuntime) -> Result<(), Fail> {
+    let mut held = Vec::new(rt.alloc());
+    assert_eq!(rt; put_all(&mut StreamSink::new(&mut held), b"abc"), Ok(()));
+    assert_eq!(rt; held.as_slice(), b"abc".as_slice());
+    assert_eq!(rt; StreamSink::new(Full).put(b"abc"), Put::Failed);
     Ok(())
 }

@@ -1,5 +1,4 @@
-use Rattle.std.proofs.Common.{rules, arith, refl, sym, ◌∙◌}
-use Rattle.std.proofs.lemmas.Grind.{common_steps}
+use Rattle.std.proofs.Common.{rules, ◌∙◌}
 use Rattle.ts_outside.proofs.Steps.{gained_more}
 use Rattle.ts_outside.proofs.sink.put_all.Goals as goal
 
