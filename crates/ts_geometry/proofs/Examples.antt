@@ -11,6 +11,12 @@ badness-full = refl
 badness-rigid : badness 1 (pos 0) ≡ 10000
 badness-rigid = refl
 
+badness-great_shortfall : badness 7230585 (pos 1663497) ≡ 8189
+badness-great_shortfall = refl
+
+badness-great_shortfall_little_stretch : badness 7230585 (pos 1663496) ≡ 10000
+badness-great_shortfall_little_stretch = refl
+
 scale-ten_points : scale (pos 917504) 655360 ≡ pos 573440
 scale-ten_points = refl
 

@@ -1,14 +1,15 @@
 -- Boxes in lists in lists.
-use Rattle.std.proofs.Common.{◌≡◌, ap, arith, ◌∙◌, sym}
+use Rattle.std.proofs.Common.{◌-ℤ◌, ◌≡◌, ap, arith, ◌∙◌, sym}
 use Rattle.std.proofs.lemmas.Int.{ints}
 use Rattle.ts_geometry.specs.declared.direction.Dir.{Dir}
 use Rattle.ts_geometry.specs.declared.direction.Dir.TheVariants.{Yoko, Tate, Dtou}
+use Rattle.ts_geometry.specs.declared.measure.Sp.{Sp}
 use Rattle.ts_geometry.specs.declared.measure.Point.{Point}
 use Rattle.ts_geometry.specs.declared.measure.Measures.{Measures}
 use Rattle.ts_geometry.specs.declared.measure.Rect.{Rect}
-use Rattle.ts_geometry.specs.Directions.{step, rect, step_rect, extent}
+use Rattle.ts_geometry.specs.Directions.{sp, step, rect, step_rect, extent}
 use Rattle.ts_geometry.specs.Crossings.{seen, inner_point}
-use Rattle.ts_geometry.specs.Laws.{CrossingsKeepExtents, CrossingsMoveAlong, CrossingsNest, WaysOfSeeingAgree}
+use Rattle.ts_geometry.specs.Laws.{CrossingsKeepExtents, CrossingsMoveAlong, EachPointIsInner, CrossingsNest, WaysOfSeeingAgree}
 use Rattle.ts_geometry.proofs.Moved.{same_point, rect-injective, steps_move_rectangles}
 use Rattle.ts_geometry.proofs.Crossed.{rect-inner_point}
 
@@ -29,6 +30,14 @@ crossings_move_along m own from dir p along across =
     ∙ steps_move_rectangles (seen m own from) p from dir along across
     ∙ sym (ap (λ (r : Rect). step_rect r dir along across) (rect-inner_point m own p from))
     ∙ sym (steps_move_rectangles m (inner_point m own p from) own dir along across))
+
+-- the point that lies from the wanted one as the wanted one lies from its own inner point
+pub each_point_is_inner : EachPointIsInner
+each_point_is_inner m own from inner =
+    let start : Point = inner_point m own inner from in
+    let right : Sp = sp (inner.x.0 -ℤ start.x.0) in
+    let down : Sp = sp (inner.y.0 -ℤ start.y.0) in
+    (step inner Yoko right down, crossings_move_along m own from Yoko inner right down ∙ same_point _ _ inner.x.0 inner.y.0 (omega (arith, ints)) (omega (arith, ints)))
 
 pub crossings_nest : CrossingsNest
 crossings_nest m own through p from =

@@ -30,7 +30,7 @@ seen m Dtou Dtou = m
 pub record IsInnerPoint (m : Measures) (own : Dir) (p : Point) (from : Dir) (q : Point) : Type 0 where
   pub same_rectangle : rect m q own ≡ rect (seen m own from) p from
 
--- the inner point, worked out; the law `there_is_one_inner_point` says that it is one, and the only one
+-- the table of inner points; the law `there_is_one_inner_point` says that each is one, and the only one
 abbrev pub inner_point : Measures → Dir → Point → Dir → Point
 inner_point m Yoko p Yoko = p
 inner_point m Yoko p Tate = point (p.x.0 -ℤ half m.wd.0) (p.y.0 +ℤ m.ht.0)

@@ -23,6 +23,7 @@ abbrev pub StepsMoveRectangles : Type 0
 StepsMoveRectangles = (m : Measures) (p : Point) (own dir : Dir) (along across : Sp) →
     rect m (step p dir along across) own ≡ step_rect (rect m p own) dir along across
 
+-- one point, and no other, is the inner point: that of the table
 abbrev pub InnerPointsAreUnique : Type 0
 InnerPointsAreUnique = (m : Measures) (own : Dir) (p : Point) (from : Dir) (q : Point) →
     IsInnerPoint m own p from q ↔ (q ≡ inner_point m own p from)
@@ -36,6 +37,11 @@ CrossingsKeepExtents = (m : Measures) (own from : Dir) (p q : Point) →
 abbrev pub CrossingsMoveAlong : Type 0
 CrossingsMoveAlong = (m : Measures) (own from dir : Dir) (p : Point) (along across : Sp) →
     inner_point m own (step p dir along across) from ≡ step (inner_point m own p from) dir along across
+
+-- every point is the inner point of some point
+abbrev pub EachPointIsInner : Type 0
+EachPointIsInner = (m : Measures) (own from : Dir) (inner : Point) →
+    (p : Point) × (inner_point m own p from ≡ inner)
 
 -- the inner point of a box that a list of direction `from` has at p in a list of direction `through`
 abbrev pub nested_point : Measures → Dir → Dir → Point → Dir → Point

@@ -1,5 +1,5 @@
 //! Laws of numbers, directions and crossings, over all whole numbers.
-ghost use Rattle.ts_geometry.specs.Laws.{FloorsAreGreatest, NearestIsWithinHalf, StepsMoveRectangles, InnerPointsAreUnique, CrossingsKeepExtents, CrossingsMoveAlong, CrossingsNest, WaysOfSeeingAgree};
+ghost use Rattle.ts_geometry.specs.Laws.{FloorsAreGreatest, NearestIsWithinHalf, StepsMoveRectangles, InnerPointsAreUnique, CrossingsKeepExtents, CrossingsMoveAlong, EachPointIsInner, CrossingsNest, WaysOfSeeingAgree};
 
 /// A floor is the greatest whole number that isn't above the quotient.
 #[tactic(auto, using(crate::proofs::Quotients::floors_are_greatest, std::proofs::lemmas::Grind::common_steps))]
@@ -37,6 +37,12 @@ pub fn a_crossing_keeps_the_extent()
 #[tactic(auto, using(crate::proofs::Nested::crossings_move_along, std::proofs::lemmas::Grind::common_steps))]
 pub fn a_step_moves_the_inner_point()
     ensures { CrossingsMoveAlong }
+{}
+
+/// A box can be set from any point, in a list of any direction.
+#[tactic(auto, using(crate::proofs::Nested::each_point_is_inner, std::proofs::lemmas::Grind::common_steps))]
+pub fn each_point_is_an_inner_point()
+    ensures { EachPointIsInner }
 {}
 
 /// A box that is seen through a list of a third direction covers what it does from the inner point
