@@ -1,5 +1,5 @@
 -- How names are numbered.
-use Rattle.std.specs.Prelude.{ℕ, Bool, not, nat_le, ◌&&◌, List, [], ◌∷◌, ◌++◌, length, if◌then◌else◌, Result, Ok, Err, slice_get, ◌≡◌, ◌≤◌, Some}
+use Rattle.std.specs.Prelude.{ℕ, Bool, not, nat_le, ◌&&◌, List, [], ◌∷◌, ◌++◌, length, if◌then◌else◌, Result, Ok, Err, slice_get, ◌≡◌, ◌≤◌, ◌<◌, Some}
 use Rattle.std.specs.List.{list_any, position_or_len, IsDistinct}
 use Rattle.tok_lists.specs.declared.spelling.Spelling.{Spelling}
 use Rattle.tok_lists.specs.declared.fault.NamesFault.{NamesFault}
@@ -35,6 +35,10 @@ cause_of NoMemory = Free
 -- no spelling has two numbers
 abbrev pub HaveOneNumberEach : List Spelling → Type 0
 HaveOneNumberEach names = (m n : ℕ) (s : Spelling) → slice_get names m ≡ Some s → slice_get names n ≡ Some s → m ≡ n
+
+-- a name keeps its number
+abbrev pub KeepsNumbers : List Spelling → List Spelling → Type 0
+KeepsNumbers old new = (n : ℕ) → n < length old → slice_get new n ≡ slice_get old n
 
 -- what is true of the names at all times
 pub record AreFewAndDistinct (names : List Spelling) : Type 0 where

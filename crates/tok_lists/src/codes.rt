@@ -27,3 +27,41 @@ pub trait CodeTable {
         ensures least { 16 ≤ result }
         ensures most { result ≤ 18 };
 }
+
+#[cfg(test)]
+mod tests {
+    use super::*;
+    use std::test::Fail;
+
+    struct AllOther;
+
+    impl CodeTable for AllOther {
+        ghost cat_of = { λ _ _. 12 };
+
+        ghost kcat_of = { λ _ _. 18 };
+
+        fn cat(&self, _code: u8) -> u8 {
+            12
+        }
+
+        fn kcat(&self, _cell: Cell) -> u8 {
+            18
+        }
+    }
+
+    fn of_both<C: CodeTable>(codes: &C, code: u8, cell: Cell) -> [u8; 2] {
+        let of_categories = [0; 16];
+        let of_kinds = [1; 3];
+        [
+            codes.cat(code) + of_categories[codes.cat(code) as usize],
+            codes.kcat(cell) + of_kinds[codes.kcat(cell) as usize - 16],
+        ]
+    }
+
+    #[test]
+    fn codes_are_within_their_tables(rt: HostRuntime) -> Result<(), Fail> {
+        let cell = Cell::new(4, 2).ok_or("no cell")?;
+        assert_eq!(rt; of_both(&AllOther, 65, cell), [12, 19]);
+        Ok(())
+    }
+}

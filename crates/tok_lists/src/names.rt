@@ -4,7 +4,7 @@ ghost use Rattle.std.specs.Prelude.{◌≡◌, ◌<◌, ◌≤◌, [], length, m
 ghost use Rattle.std.specs.List.{IsDistinct};
 ghost use Rattle.ts_outside.specs.Agreement.{Agrees};
 ghost use Rattle.tok_lists.specs.Same.{is_same};
-ghost use Rattle.tok_lists.specs.Names.{number_in, with_name, numbered, cause_of, AreFewAndDistinct, HaveOneNumberEach};
+ghost use Rattle.tok_lists.specs.Names.{number_in, with_name, numbered, cause_of, AreFewAndDistinct, KeepsNumbers, HaveOneNumberEach};
 ghost use Rattle.tok_lists.specs.StartNames.{start_names, control_word};
 
 use crate::chars::Chars;
@@ -92,7 +92,7 @@ fn blank(alloc: Global) -> Spelling {
 }
 
 /// The number of the spelling that is sought, which is taken where it is new.
-#[tactic(auto, using(crate::proofs::Numbered::spelt))]
+#[tactic(auto, using(crate::proofs::Numbered::spelt, crate::proofs::Numbered::keeps_numbers))]
 fn number_of(
     alloc: Global,
     spellings: &mut IndexSet<Spelling>,
@@ -103,6 +103,7 @@ fn number_of(
     ensures ok { OnOk result (spellings.new.keys ≡ with_name spellings.old.keys sought.old) }
     ensures err { OnErr result (spellings.new.keys ≡ spellings.old.keys) }
     ensures spelt { IfOk result (λ n. slice_get spellings.new.keys n.0 ≡ Some sought.old) }
+    ensures kept { KeepsNumbers spellings.old.keys spellings.new.keys }
     ensures few { AreFewAndDistinct spellings.new.keys }
 {
     if let Some(number) = spellings.get_index_of(&*sought) {
@@ -139,6 +140,7 @@ impl Names {
         ensures ok { OnOk result (self.new ≡ with_name self.old (record { active = active; chars = chars.now })) }
         ensures err { OnErr result (self.new ≡ self.old) }
         ensures spelt { IfOk result (λ n. slice_get self.new n.0 ≡ Some (record { active = active; chars = chars.now })) }
+        ensures kept { KeepsNumbers self.old self.new }
         ensures distinct { HaveOneNumberEach self.new }
     {
         self.sought.active = active;
@@ -190,6 +192,16 @@ mod tests {
                 Ok(NameNo(number))
             );
         }
+        Ok(())
+    }
+
+    #[test]
+    fn a_name_has_its_spelling(rt: HostRuntime) -> Result<(), Fail> {
+        let mut names = Names::new(rt.alloc())?;
+        let name = names.intern(true, &[Char::One(b'~')])?;
+        let spelling = names.spelling(name);
+        assert!(rt; spelling.active);
+        assert_eq!(rt; spelling.chars.as_slice(), [Char::One(b'~')].as_slice());
         Ok(())
     }
 

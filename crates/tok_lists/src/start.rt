@@ -2,7 +2,7 @@
 
 /// Their control words, in the order of their numbers: what is expanded, what assigns, what builds
 /// lists, and the parameters (The TeXbook, chapters 20, 24 and 25; pTeX).
-pub const START_WORDS: [&str; 138] = [
+pub(crate) const START_WORDS: [&str; 138] = [
     "expandafter",
     "noexpand",
     "csname",

@@ -50,3 +50,26 @@ impl Tokens {
         self.items.as_slice()
     }
 }
+
+#[cfg(test)]
+mod tests {
+    use super::*;
+    use crate::chars::Chars;
+    use jis_codes::Char;
+
+    #[test]
+    fn lists_keep_what_is_pushed(rt: HostRuntime) {
+        let mut tokens = Tokens::new(rt.alloc());
+        let mut chars = Chars::new(rt.alloc());
+        for code in 0..3 {
+            assert_eq!(rt; tokens.push(Token::Char(code, 12)), Ok(()));
+            assert_eq!(rt; chars.push(Char::One(code)), Ok(()));
+        }
+        let expected = [Token::Char(0, 12), Token::Char(1, 12), Token::Char(2, 12)];
+        assert_eq!(rt; tokens.as_slice(), expected.as_slice());
+        assert_eq!(rt;
+            chars.as_slice(),
+            [Char::One(0), Char::One(1), Char::One(2)].as_slice()
+        );
+    }
+}

@@ -1,6 +1,4 @@
-use Rattle.std.proofs.Common.{subst, sym, ◌≡◌, rules}
 use Rattle.tok_lists.proofs.Numbered.{one_number}
-use Rattle.tok_lists.specs.Names.{HaveOneNumberEach}
 use Rattle.tok_lists.proofs.names.Names.intern.Goals as goal
 
 pub returns-then-is_err-clause-distinct : goal.returns-then-is_err-clause-distinct
