@@ -1,0 +1,7 @@
+//! A page of glyphs of one font as a DVI file.
+
+mod number;
+mod page;
+mod piece;
+
+pub(crate) use page::{Glyph, dvi_of};
