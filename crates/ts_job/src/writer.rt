@@ -3,5 +3,7 @@
 mod number;
 mod page;
 mod piece;
+#[cfg(test)]
+mod tests;
 
 pub(crate) use page::{Glyph, dvi_of};
