@@ -6,6 +6,8 @@ mod font;
 mod mark;
 mod memory;
 mod page;
+#[cfg(test)]
+mod tests;
 
 pub use fault::{DviBad, DviKind};
 pub use font::{FontDef, Widths};

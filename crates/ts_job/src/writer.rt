@@ -1,0 +1,9 @@
+//! A page of glyphs of one font as a DVI file.
+
+mod number;
+mod page;
+mod piece;
+#[cfg(test)]
+mod tests;
+
+pub(crate) use page::{Glyph, dvi_of};
