@@ -32,5 +32,5 @@ pub measures_of-places : (m : Metric) (infos : List CharInfo) (widths heights de
 measures_of-places m infos widths heights depths class place z info wd ht dp place_is within classes_are info_is wd_is ht_is dp_is =
     let place_within : place < length infos = omega arith in
     let entry : get_or m.classes class no_measures ≡ measures_in widths heights depths info =
-      rw (← classes_are, ← place_is, get_or-map (measures_in widths heights depths) infos place info no_measures place_within, ← info_is) refl in
+    rw (← classes_are, ← place_is, get_or-map (measures_in widths heights depths) infos place info no_measures place_within, ← info_is) refl in
     rw (entry, wd_is, ht_is, dp_is) refl

@@ -54,7 +54,12 @@ pub fn read(alloc: Global, bytes: &[u8]) -> Result<Japanese, MetricFault>
     let char_types = read_char_types(alloc, bytes, &lengths)?;
     let char_infos = read_char_infos(alloc, bytes, &lengths)?;
     let widths = read_table(alloc, bytes, lengths.width_start(), usize::from(lengths.nw))?;
-    let heights = read_table(alloc, bytes, lengths.height_start(), usize::from(lengths.nh))?;
+    let heights = read_table(
+        alloc,
+        bytes,
+        lengths.height_start(),
+        usize::from(lengths.nh),
+    )?;
     let depths = read_table(alloc, bytes, lengths.depth_start(), usize::from(lengths.nd))?;
     check_table(bytes, lengths.italic_start(), usize::from(lengths.ni))?;
     let params = read_params(alloc, bytes, lengths.param_start(), usize::from(lengths.np))?;

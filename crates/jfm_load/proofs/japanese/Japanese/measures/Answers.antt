@@ -10,9 +10,9 @@ returns-clause-value c =
     let depth_fits : FitsSigned w64 c.scaled_at-3.result = search rules in
     let classes = ap (λ m. m.classes) c.self.view_is in
     let within : c.args.class < length c.self.inside.char_infos.items =
-      omega (arith, c.requires.in_font, simp length-map at (ap length classes)) in
+    omega (arith, c.requires.in_font, simp length-map at (ap length classes)) in
     simp to_z-of_z
     (measures_of-places c.args.self.now c.self.inside.char_infos.items c.self.inside.widths.items c.self.inside.heights.items c.self.inside.depths.items
-      c.args.class _ _ _ _ _ _ c.from.ensures within classes c.index-info.ensures
-      (rw c.deref.ensures.value at c.scaled_at.ensures.value) (rw c.deref-2.ensures.value at c.scaled_at-2.ensures.value)
-      (rw c.deref-3.ensures.value at c.scaled_at-3.ensures.value))
+    c.args.class _ _ _ _ _ _ c.from.ensures within classes c.index-info.ensures
+    (rw c.deref.ensures.value at c.scaled_at.ensures.value) (rw c.deref-2.ensures.value at c.scaled_at-2.ensures.value)
+    (rw c.deref-3.ensures.value at c.scaled_at-3.ensures.value))
