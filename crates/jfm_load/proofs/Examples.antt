@@ -14,13 +14,13 @@ jp10 = 0 ∷ 11 ∷ 0 ∷ 1 ∷ 0 ∷ 24 ∷ 0 ∷ 2 ∷ 0 ∷ 0 ∷ 0 ∷ 0 ∷
 -- the metric that jp10 spells
 abbrev full_width : Metric
 full_width = record {
-    is_tate = false;
-    check_sum = 0;
-    design = 655360;
-    char_types = record { code = 0; class = 0 } ∷ [];
-    classes = record { width = pos 1048576; height = pos 917504; depth = pos 131072 } ∷ [];
-    params = pos 0 ∷ pos 0 ∷ pos 0 ∷ pos 0 ∷ pos 1048576 ∷ pos 1048576 ∷ [];
-  }
+  is_tate = false;
+  check_sum = 0;
+  design = 655360;
+  char_types = record { code = 0; class = 0 } ∷ [];
+  classes = record { width = pos 1048576; height = pos 917504; depth = pos 131072 } ∷ [];
+  params = pos 0 ∷ pos 0 ∷ pos 0 ∷ pos 0 ∷ pos 1048576 ∷ pos 1048576 ∷ [];
+}
 
 jp10_is_read : metric_of jp10 ≡ Ok full_width
 unfolding metric_of halfword word lengths_of contradict lengths_in design_kind is_jis char_type_of first_type_kind type_kind char_info_of info_kind fix_kind zero_kind

@@ -1,3 +1,5 @@
 mod Examples
 pub mod SoundParts
 pub mod PartsLeft
+pub mod Codes
+pub mod Scaling

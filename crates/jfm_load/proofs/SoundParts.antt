@@ -16,17 +16,17 @@ use Rattle.jfm_load.specs.Sound.{AreSound, AreTables, rise, rise_from, has_class
 pub sound_lengths : (l : Lengths) (size : ℕ) → contradict l ≡ false → 4 * l.lf ≤ size → l.lf ≤ 65535 → AreSound l size
 unfolding contradict
 sound_lengths l size agree h fits = record {
-    inside = grind (arith, nat_tests);
-    whole = grind (arith, nat_tests);
-    header = grind (arith, nat_tests);
-    first_class = grind (arith, nat_tests);
-    last_class = grind (arith, nat_tests);
-    types = grind (arith, nat_tests);
-    widths = grind (arith, nat_tests);
-    heights = grind (arith, nat_tests);
-    depths = grind (arith, nat_tests);
-    italics = grind (arith, nat_tests);
-  }
+  inside = grind (arith, nat_tests);
+  whole = grind (arith, nat_tests);
+  header = grind (arith, nat_tests);
+  first_class = grind (arith, nat_tests);
+  last_class = grind (arith, nat_tests);
+  types = grind (arith, nat_tests);
+  widths = grind (arith, nat_tests);
+  heights = grind (arith, nat_tests);
+  depths = grind (arith, nat_tests);
+  italics = grind (arith, nat_tests);
+}
 
 -- ---- no word is bad where a value is given
 
@@ -103,7 +103,7 @@ pub good_info : (l : Lengths) (w : ℕ) → info_kind l w ≡ None → has_place
 unfolding info_kind char_info_of
 good_info l w h =
     let b = if-none (nat_lt (first_byte w) l.nw && nat_lt (second_byte w / 16) l.nh && nat_lt (second_byte w % 16) l.nd
-      && nat_lt (third_byte w / 4) l.ni && (not (third_byte w % 4 == 1) || nat_lt (fourth_byte w) l.nl)) _ h in
+    && nat_lt (third_byte w / 4) l.ni && (not (third_byte w % 4 == 1) || nat_lt (fourth_byte w) l.nl)) _ h in
     grind (arith, nat_tests)
 
 pub good_fix : (w : ℕ) → fix_kind w ≡ None → is_fix (fix_of w) ≡ true
@@ -140,9 +140,10 @@ pub sound_infos : (file : List ℕ) (l : Lengths) (infos : List CharInfo) → ch
     → (length infos ≡ class_count l) × (list_all (has_places l.nw l.nh l.nd) infos ≡ true)
 sound_infos file l infos h =
     let ws = words file (char_info_start l) (class_count l) in
-    let e = checked-value (char_info_start l) (map (info_kind l) ws) (map char_info_of ws) infos h in
-    (ap length (sym e) ∙ (rw (length-map, length-words) refl),
-      rw (← e) (good_values (info_kind l) char_info_of (has_places l.nw l.nh l.nd) (good_info l) (char_info_start l) ws (map char_info_of ws) infos h))
+    let e = checked-value (char_info_start l) (map (info_kind l) ws) (map char_info_of ws) infos h in (
+      ap length (sym e) ∙ (rw (length-map, length-words) refl),
+      rw (← e) (good_values (info_kind l) char_info_of (has_places l.nw l.nh l.nd) (good_info l) (char_info_start l) ws (map char_info_of ws) infos h),
+    )
 
 -- the tables of a file without a fault fit each other
 pub sound_tables : (file : List ℕ) (l : Lengths) (size d : ℕ) (types : List CharType) (infos : List CharInfo) (widths heights depths : List ℤ) (w h p nw nh nd : ℕ)

@@ -31,10 +31,10 @@ pub record Metric : Type 0 where
 -- a class's measures, in the tables of widths, heights and depths
 abbrev pub measures_in : List ℤ → List ℤ → List ℤ → CharInfo → FixMeasures
 measures_in widths heights depths info = record {
-    width = slice_index_or widths info.width (pos 0);
-    height = slice_index_or heights info.height (pos 0);
-    depth = slice_index_or depths info.depth (pos 0);
-  }
+  width = slice_index_or widths info.width (pos 0);
+  height = slice_index_or heights info.height (pos 0);
+  depth = slice_index_or depths info.depth (pos 0);
+}
 
 -- the metric that a file spells, or its first fault: the lengths and then the parts in their order in the file
 unfoldable pub metric_of : List ℕ → Result Metric MetricFault
@@ -49,13 +49,13 @@ metric_of file = do
   italics ← table_in file (italic_start l) l.ni
   params ← params_in file (param_start l) l.np
   Ok (record {
-      is_tate = l.id == 9;
-      check_sum = word file header_start;
-      design = design;
-      char_types = char_types;
-      classes = map (measures_in widths heights depths) char_infos;
-      params = params;
-    })
+    is_tate = l.id == 9;
+    check_sum = word file header_start;
+    design = design;
+    char_types = char_types;
+    classes = map (measures_in widths heights depths) char_infos;
+    params = params;
+  })
 
 -- the bytes determine each fault but want of memory
 abbrev pub cause : MetricFault → Cause
@@ -89,10 +89,10 @@ fix_measures_of m class = slice_index_or m.classes class no_measures
 -- the same at a size
 abbrev pub measures_of : Metric → ℕ → ℕ → Measures
 measures_of m class z = let f = fix_measures_of m class in record {
-    wd = record { 0 = scaled f.width z };
-    ht = record { 0 = scaled f.height z };
-    dp = record { 0 = scaled f.depth z };
-  }
+  wd = record { 0 = scaled f.width z };
+  ht = record { 0 = scaled f.height z };
+  dp = record { 0 = scaled f.depth z };
+}
 
 -- a parameter, counted from 1: 0 where there is none
 abbrev pub param_of : Metric → ℕ → ℤ

@@ -14,10 +14,21 @@ use Rattle.jfm_load.specs.Words.{halfword, word, words, first_byte, second_byte,
 -- the 14 halfwords with which a JFM begins
 unfoldable pub lengths_of : List ℕ → Lengths
 lengths_of file = record {
-    id = halfword file 0; nt = halfword file 1; lf = halfword file 2; lh = halfword file 3; bc = halfword file 4;
-    ec = halfword file 5; nw = halfword file 6; nh = halfword file 7; nd = halfword file 8; ni = halfword file 9;
-    nl = halfword file 10; nk = halfword file 11; ng = halfword file 12; np = halfword file 13;
-  }
+  id = halfword file 0;
+  nt = halfword file 1;
+  lf = halfword file 2;
+  lh = halfword file 3;
+  bc = halfword file 4;
+  ec = halfword file 5;
+  nw = halfword file 6;
+  nh = halfword file 7;
+  nd = halfword file 8;
+  ni = halfword file 9;
+  nl = halfword file 10;
+  nk = halfword file 11;
+  ng = halfword file 12;
+  np = halfword file 13;
+}
 
 -- how many classes of characters there are
 abbrev pub class_count : Lengths → ℕ
@@ -137,7 +148,7 @@ char_info_of w = record { width = first_byte w; height = second_byte w / 16; dep
 unfoldable pub info_kind : Lengths → ℕ → Option BadKind
 info_kind l w =
     if nat_lt (first_byte w) l.nw && nat_lt (second_byte w / 16) l.nh && nat_lt (second_byte w % 16) l.nd
-      && nat_lt (third_byte w / 4) l.ni && (not (third_byte w % 4 == 1) || nat_lt (fourth_byte w) l.nl)
+    && nat_lt (third_byte w / 4) l.ni && (not (third_byte w % 4 == 1) || nat_lt (fourth_byte w) l.nl)
     then None else Some Index
 
 abbrev pub char_infos_in : List ℕ → Lengths → Result (List CharInfo) MetricFault

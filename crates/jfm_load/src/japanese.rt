@@ -1,15 +1,16 @@
 //! A metric of a Japanese font, and what it says of its characters.
 
-ghost use Rattle.std.specs.Prelude.{◌≡◌, ◌*◌, ◌≤◌, ◌<◌, ◌^◌, length};
+ghost use Rattle.std.specs.Prelude.{◌≡◌, ◌*◌, ◌≤◌, ◌<◌, ◌^◌, length, IsTrue, slice_index_or, pos};
+ghost use Rattle.std.specs.List.{list_all};
 ghost use Rattle.ts_outside.specs.Agreement.{Agrees};
-ghost use Rattle.jfm_load.specs.Metrics.{metric_of, class_of, measures_of, param_of, cause};
-ghost use Rattle.jfm_load.specs.Sound.{IsWithin};
+ghost use Rattle.jfm_load.specs.Metrics.{metric_of, class_of, measures_of, param_of, cause, scaled as scaled_of};
+ghost use Rattle.jfm_load.specs.Sound.{IsWithin, is_fix};
 
 use crate::lengths::read_lengths;
 use crate::parts::{
     check_table, read_char_infos, read_char_types, read_design, read_params, read_table,
 };
-use crate::tables::{CharInfo, CharType};
+use crate::tables::{CharInfo, CharType, class_in};
 use crate::words::word_at;
 use jis_codes::Cell;
 use std::alloc::Global;
@@ -53,7 +54,12 @@ pub fn read(alloc: Global, bytes: &[u8]) -> Result<Japanese, MetricFault>
     let char_types = read_char_types(alloc, bytes, &lengths)?;
     let char_infos = read_char_infos(alloc, bytes, &lengths)?;
     let widths = read_table(alloc, bytes, lengths.width_start(), usize::from(lengths.nw))?;
-    let heights = read_table(alloc, bytes, lengths.height_start(), usize::from(lengths.nh))?;
+    let heights = read_table(
+        alloc,
+        bytes,
+        lengths.height_start(),
+        usize::from(lengths.nh),
+    )?;
     let depths = read_table(alloc, bytes, lengths.depth_start(), usize::from(lengths.nd))?;
     check_table(bytes, lengths.italic_start(), usize::from(lengths.ni))?;
     let params = read_params(alloc, bytes, lengths.param_start(), usize::from(lengths.np))?;
@@ -70,6 +76,27 @@ pub fn read(alloc: Global, bytes: &[u8]) -> Result<Japanese, MetricFault>
     })
 }
 
+// A fix word at a size in scaled points, rounded down.
+fn scaled(fix: i32, z: u32) -> i64
+    requires fix { IsTrue (is_fix fix) }
+    requires size { z < 2 ^ 23 }
+    ensures value { result ≡ scaled_of fix z }
+    ensures within { IsWithin (16 * z) result }
+{
+    (i64::from(fix) * i64::from(z)).div_euclid(0x10_0000)
+}
+
+// The fix word at that place of a table, at a size in scaled points.
+fn scaled_at(table: &[i32], place: u8, z: u32) -> i64
+    requires inside { place < length table.now }
+    requires fix { IsTrue (list_all is_fix table.now) }
+    requires size { z < 2 ^ 23 }
+    ensures value { result ≡ scaled_of (slice_index_or table.now place (pos 0)) z }
+    ensures within { IsWithin (16 * z) result }
+{
+    scaled(table[usize::from(place)], z)
+}
+
 impl Japanese {
     /// Is it for tate lines?
     pub fn is_tate(&self) -> bool
@@ -83,7 +110,9 @@ impl Japanese {
         ensures value { result ≡ class_of self.now cell }
         ensures in_font { result < length self.now.classes }
     {
-        0
+        let row = u16::from(cell.row());
+        let place = u16::from(cell.cell());
+        class_in(&self.char_types, 256 * (row + 32) + (place + 32))
     }
 
     /// The measures of a class at a size in scaled points, rounded down.
@@ -95,7 +124,12 @@ impl Japanese {
         ensures height { IsWithin (16 * z) result.ht.0 }
         ensures depth { IsWithin (16 * z) result.dp.0 }
     {
-        Measures { wd: Sp(0), ht: Sp(0), dp: Sp(0) }
+        let info = self.char_infos[usize::from(class)];
+        Measures {
+            wd: Sp(scaled_at(&self.widths, info.width, z)),
+            ht: Sp(scaled_at(&self.heights, info.height, z)),
+            dp: Sp(scaled_at(&self.depths, info.depth, z)),
+        }
     }
 
     /// A parameter as a fix word, counted from 1: 0 where there is none. Of a size that is 2^20 the
@@ -103,7 +137,11 @@ impl Japanese {
     pub fn param(&self, n: u16) -> i32
         ensures { result ≡ param_of self.now n }
     {
-        0
+        let n = usize::from(n);
+        if n == 0 || self.params.len() < n {
+            return 0;
+        }
+        self.params[n - 1]
     }
 
     /// The design size in scaled points.

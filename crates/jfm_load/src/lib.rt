@@ -8,3 +8,6 @@ mod tables;
 mod words;
 
 pub use japanese::{Japanese, read};
+
+#[cfg(test)]
+mod tests;

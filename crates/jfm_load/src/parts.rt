@@ -83,7 +83,11 @@ fn type_kind(before: u16, last_class: u16, word: u32) -> Option<BadKind>
 }
 
 /// The table of character types: the codes that the font lists, each with its class.
-pub(crate) fn read_char_types(alloc: Global, bytes: &[u8], lengths: &Lengths) -> Result<Vec<CharType>, MetricFault>
+pub(crate) fn read_char_types(
+    alloc: Global,
+    bytes: &[u8],
+    lengths: &Lengths,
+) -> Result<Vec<CharType>, MetricFault>
     requires { AreSound lengths.now (length bytes.now) }
     ensures { Agrees (λ v. v.items) cause result (spec.char_types_in bytes.now lengths.now) }
 {
@@ -138,7 +142,11 @@ fn info_kind(lengths: &Lengths, word: u32) -> Option<BadKind>
 }
 
 /// What each class has.
-pub(crate) fn read_char_infos(alloc: Global, bytes: &[u8], lengths: &Lengths) -> Result<Vec<CharInfo>, MetricFault>
+pub(crate) fn read_char_infos(
+    alloc: Global,
+    bytes: &[u8],
+    lengths: &Lengths,
+) -> Result<Vec<CharInfo>, MetricFault>
     requires { AreSound lengths.now (length bytes.now) }
     ensures { Agrees (λ v. v.items) cause result (spec.char_infos_in bytes.now lengths.now) }
 {
@@ -177,7 +185,12 @@ fn zero_kind(word: u32) -> Option<BadKind>
 }
 
 // Puts the fix words from one place up to another behind those that are in the table.
-fn read_fix_words(bytes: &[u8], start: usize, end: usize, table: &mut Vec<i32>) -> Result<(), MetricFault>
+fn read_fix_words(
+    bytes: &[u8],
+    start: usize,
+    end: usize,
+    table: &mut Vec<i32>,
+) -> Result<(), MetricFault>
     requires inside { 4 * end ≤ length bytes.now }
     requires whole { end ≤ 65535 }
     ensures { Agrees (λ _. table.new.items) cause result (left spec.fix_kind spec.fix_of bytes.now start end table.old.items) }
@@ -193,7 +206,12 @@ fn read_fix_words(bytes: &[u8], start: usize, end: usize, table: &mut Vec<i32>) 
 }
 
 /// A table of so many fix words, of which the first is 0.
-pub(crate) fn read_table(alloc: Global, bytes: &[u8], start: usize, len: usize) -> Result<Vec<i32>, MetricFault>
+pub(crate) fn read_table(
+    alloc: Global,
+    bytes: &[u8],
+    start: usize,
+    len: usize,
+) -> Result<Vec<i32>, MetricFault>
     requires inside { 4 * (start + len) ≤ length bytes.now }
     requires whole { start + len ≤ 65535 }
     requires some { 1 ≤ len }
@@ -230,7 +248,12 @@ pub(crate) fn check_table(bytes: &[u8], start: usize, len: usize) -> Result<(), 
 }
 
 /// So many parameters, of which the first, the slant, may be any number.
-pub(crate) fn read_params(alloc: Global, bytes: &[u8], start: usize, len: usize) -> Result<Vec<i32>, MetricFault>
+pub(crate) fn read_params(
+    alloc: Global,
+    bytes: &[u8],
+    start: usize,
+    len: usize,
+) -> Result<Vec<i32>, MetricFault>
     requires inside { 4 * (start + len) ≤ length bytes.now }
     requires whole { start + len ≤ 65535 }
     ensures { Agrees (λ v. v.items) cause result (spec.params_in bytes.now start len) }

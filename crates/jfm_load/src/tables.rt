@@ -1,6 +1,8 @@
 //! The tables of a metric.
 
-ghost use Rattle.std.specs.Prelude.{◌≡◌, ◌∷◌, [], ◌++◌, IfOk, OnOk, IsOkUnless};
+ghost use Rattle.std.specs.Prelude.{◌≡◌, ◌∷◌, [], ◌++◌, IfOk, OnOk, IsOkUnless, IsTrue};
+ghost use Rattle.jfm_load.specs.Metrics.{class_in as class_of_code};
+ghost use Rattle.jfm_load.specs.Sound.{rise};
 
 use std::alloc::Global;
 use ts_geometry::MetricFault;
@@ -39,5 +41,16 @@ pub(crate) fn push<T: Drop>(table: &mut Vec<T>, entry: T) -> Result<(), MetricFa
     match table.push(entry) {
         Ok(()) => Ok(()),
         Err(_) => Err(MetricFault::NoMemory),
+    }
+}
+
+/// The class of a code, in a table of codes that rise.
+pub(crate) fn class_in(types: &[CharType], code: u16) -> u8
+    requires { IsTrue (rise types.now) }
+    ensures { result ≡ class_of_code types.now code }
+{
+    match types.binary_search_by_key(&code, |t| t.code) {
+        Ok(at) => types[at].class,
+        Err(_) => 0,
     }
 }
