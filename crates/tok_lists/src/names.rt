@@ -206,6 +206,25 @@ mod tests {
     }
 
     #[test]
+    fn names_end_at_50000(rt: HostRuntime) -> Result<(), Fail> {
+        let mut names = Names::new(rt.alloc())?;
+        for number in 138..50_000u32 {
+            let [_, _, high, low] = number.to_be_bytes();
+            let spelling = [Char::One(1), Char::One(high), Char::One(low)];
+            assert_eq!(rt; names.intern(false, &spelling), Ok(NameNo(number)));
+        }
+        assert_eq!(rt;
+            names.intern(true, &[Char::One(1)]),
+            Err(NamesFault::NamesFull)
+        );
+        assert_eq!(rt;
+            numbers(&mut names, rt.alloc(), false, "output"),
+            Ok(NameNo(137))
+        );
+        Ok(())
+    }
+
+    #[test]
     fn new_names_get_the_next_numbers(rt: HostRuntime) -> Result<(), Fail> {
         let mut names = Names::new(rt.alloc())?;
         let kanji = Char::Ja(Cell::new(20, 33).ok_or("no cell")?);
