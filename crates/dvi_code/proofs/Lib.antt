@@ -3,3 +3,4 @@ pub mod Stable
 pub mod Leading
 pub mod Drawing
 pub mod Saying
+pub mod Sound

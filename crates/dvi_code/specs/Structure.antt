@@ -1,5 +1,6 @@
 -- The structure of a DVI file (TeX: The Program, sections 583 to 591): pre, pages, post, definitions of fonts, post_post
--- and fill. One pass over the placed commands gives the pages as lists of commands, or the first fault with its place.
+-- and fill. One pass over the placed commands gives the pages as lists of commands, or the first fault with its place. Where one
+-- command has several faults, the first in the order of the kinds counts.
 use Rattle.std.specs.Prelude.{ℕ, zero, suc, ◌+◌, ◌%◌, List, [], ◌∷◌, ◌++◌, length, Result, Ok, Err, Option, Some, None, ℤ, pos, negsuc, Bool, true, false, nat_eq, nat_le, nat_lt, ◌&&◌, ◌||◌, if◌then◌else◌}
 use Rattle.std.specs.Ordering.{int_eq}
 use lib.Pointwise.{pointwise}

@@ -8,6 +8,7 @@ ghost use Rattle.ts_job.specs.Written.{right_bytes, down_bytes, set_bytes, glyph
 ghost use Rattle.ts_job.specs.Meant.{IsShort, FitsGlyph, HasWidths, page_meant};
 
 use crate::writer::number::{put_short, put_signed};
+use crate::writer::opcode;
 use crate::writer::piece::{
     put_bop, put_definition, put_fill, put_post, put_post_post, put_preamble,
 };
@@ -26,7 +27,7 @@ fn put_right(out: &mut Vec<u8>, along: Sp) -> Result<(), AllocError>
     requires { IsShort along }
     ensures { OnOk result (out.new.items ≡ out.old.items ++ right_bytes along) }
 {
-    out.push(146)?;
+    out.push(opcode::RIGHT4)?;
     put_signed(out, along.0 as i32)
 }
 
@@ -34,14 +35,14 @@ fn put_down(out: &mut Vec<u8>, across: Sp) -> Result<(), AllocError>
     requires { IsShort across }
     ensures { OnOk result (out.new.items ≡ out.old.items ++ down_bytes across) }
 {
-    out.push(160)?;
+    out.push(opcode::DOWN4)?;
     put_signed(out, across.0 as i32)
 }
 
 fn put_set(out: &mut Vec<u8>, code: u16) -> Result<(), AllocError>
     ensures { OnOk result (out.new.items ≡ out.old.items ++ set_bytes code) }
 {
-    out.push(129)?;
+    out.push(opcode::SET2)?;
     put_short(out, code)
 }
 
@@ -50,11 +51,11 @@ fn put_glyph(out: &mut Vec<u8>, glyph: &Glyph) -> Result<(), AllocError>
     requires { FitsGlyph glyph.now }
     ensures { OnOk result (out.new.items ≡ out.old.items ++ glyph_bytes glyph.now) }
 {
-    out.push(141)?;
+    out.push(opcode::PUSH)?;
     put_right(out, glyph.at.x)?;
     put_down(out, glyph.at.y)?;
     put_set(out, glyph.code)?;
-    out.push(142)?;
+    out.push(opcode::POP)?;
     Ok(())
 }
 
@@ -76,15 +77,16 @@ fn put_page(out: &mut Vec<u8>, font: &FontDef, glyphs: &[Glyph]) -> Result<(), A
 {
     put_bop(out)?;
     put_definition(out, font)?;
-    out.push(171)?;
+    out.push(opcode::FNT_NUM_0)?;
     put_glyphs(out, glyphs)?;
-    out.push(140)?;
+    out.push(opcode::EOP)?;
     Ok(())
 }
 
 fn put_end(out: &mut Vec<u8>, font: &FontDef, high: u32, wide: u32) -> Result<(), AllocError>
     requires { length out.old.items < 2 ^ 31 }
-    ensures { OnOk result (out.new.items ≡ out.old.items ++ end_bytes font.now (length out.old.items) high wide) }
+    ensures { OnOk result (out.new.items
+        ≡ out.old.items ++ end_bytes font.now (length out.old.items) high wide) }
 {
     let post = out.len() as i32;
     put_post(out, high, wide)?;

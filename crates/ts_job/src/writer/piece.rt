@@ -4,9 +4,12 @@ ghost use Rattle.std.specs.Prelude.{◌≡◌, ◌++◌, replicate, OnOk};
 ghost use Rattle.ts_job.specs.Written.{preamble_bytes, bop_bytes, definition_bytes, post_bytes, post_post_bytes, unit_bytes, HasNumbers};
 
 use crate::writer::number::{put_short, put_signed, put_unsigned};
+use crate::writer::opcode;
 use dvi_code::FontDef;
 use std::alloc::AllocError;
 
+/// The identification of the format.
+const ID: u8 = 2;
 /// The unit of a DVI file is one scaled point, as this fraction of 10^-7 m (TeX: The Program,
 /// section 587).
 const NUM: u32 = 25_400_000;
@@ -31,7 +34,7 @@ fn put_units(out: &mut Vec<u8>) -> Result<(), AllocError>
 pub(crate) fn put_preamble(out: &mut Vec<u8>) -> Result<(), AllocError>
     ensures { OnOk result (out.new.items ≡ out.old.items ++ preamble_bytes) }
 {
-    out.extend_from_slice(&[247, 2])?;
+    out.extend_from_slice(&[opcode::PRE, ID])?;
     put_units(out)?;
     out.push(0)?;
     Ok(())
@@ -42,7 +45,7 @@ pub(crate) fn put_preamble(out: &mut Vec<u8>) -> Result<(), AllocError>
 pub(crate) fn put_bop(out: &mut Vec<u8>) -> Result<(), AllocError>
     ensures { OnOk result (out.new.items ≡ out.old.items ++ bop_bytes) }
 {
-    out.push(139)?;
+    out.push(opcode::BOP)?;
     out.extend_from_slice(&[0; 40])?;
     put_signed(out, -1)
 }
@@ -54,7 +57,7 @@ pub(crate) fn put_definition(out: &mut Vec<u8>, font: &FontDef) -> Result<(), Al
     ensures numbers { OnOk result (HasNumbers font.now) }
 {
     let name = font.name.bytes();
-    out.extend_from_slice(&[243, 0])?;
+    out.extend_from_slice(&[opcode::FNT_DEF1, 0])?;
     put_unsigned(out, font.check_sum)?;
     put_unsigned(out, font.size)?;
     put_unsigned(out, font.design)?;
@@ -68,7 +71,7 @@ pub(crate) fn put_definition(out: &mut Vec<u8>, font: &FontDef) -> Result<(), Al
 pub(crate) fn put_post(out: &mut Vec<u8>, high: u32, wide: u32) -> Result<(), AllocError>
     ensures { OnOk result (out.new.items ≡ out.old.items ++ post_bytes high wide) }
 {
-    out.push(248)?;
+    out.push(opcode::POST)?;
     put_signed(out, PAGE)?;
     put_units(out)?;
     put_unsigned(out, high)?;
@@ -82,9 +85,9 @@ pub(crate) fn put_post(out: &mut Vec<u8>, high: u32, wide: u32) -> Result<(), Al
 pub(crate) fn put_post_post(out: &mut Vec<u8>, post: i32) -> Result<(), AllocError>
     ensures { OnOk result (out.new.items ≡ out.old.items ++ post_post_bytes post) }
 {
-    out.push(249)?;
+    out.push(opcode::POST_POST)?;
     put_signed(out, post)?;
-    out.push(2)?;
+    out.push(ID)?;
     Ok(())
 }
 
@@ -92,7 +95,7 @@ pub(crate) fn put_fill(out: &mut Vec<u8>, count: usize) -> Result<(), AllocError
     ensures { OnOk result (out.new.items ≡ out.old.items ++ replicate count 223) }
 {
     for _ in 0..count {
-        out.push(223)?;
+        out.push(opcode::FILL)?;
     }
     Ok(())
 }

@@ -1,7 +1,5 @@
 //! The file of two characters.
 
-ghost use Rattle.std.specs.Prelude.{◌≡◌, ◌^◌, ◌<◌, Ok, IfOk};
-
 use crate::writer::{Glyph, dvi_of};
 use dvi_code::FontDef;
 use std::test::Fail;
