@@ -128,7 +128,7 @@ fn a_metric_of_one_class_gives_full_widths(rt: HostRuntime) -> Result<(), Fail> 
 }
 
 #[test]
-fn each_cell_of_a_metric_of_one_class_has_class_0(rt: HostRuntime) -> Result<(), Fail> {
+fn cells_that_are_not_listed_have_class_0(rt: HostRuntime) -> Result<(), Fail> {
     let font = read(rt.alloc(), &bytes_of(rt.alloc(), &JP10)?)?;
     for row in 1..95 {
         assert_eq!(rt; font.class(cell(row, row)?), 0);
