@@ -1,8 +1,6 @@
 -- The worked metric of one class, and its faults, are what the definition gives.
-use Rattle.std.proofs.Common.{◌≡◌, ℕ, ◌+◌, ◌*◌, List, [], ◌∷◌, refl, ℤ, pos, Bool, false, true, Result, Ok, Err, take, set, ◌++◌}
-use Rattle.ts_geometry.specs.declared.fault.BadKind.{BadKind}
+use Rattle.std.proofs.Common.{◌≡◌, ℕ, List, [], ◌∷◌, refl, pos, negsuc, false, Ok, Err, take, set, ◌++◌}
 use Rattle.ts_geometry.specs.declared.fault.BadKind.TheVariants.{Truncated, Lengths, FixWord, CharType, Index}
-use Rattle.ts_geometry.specs.declared.fault.MetricFault.{MetricFault}
 use Rattle.ts_geometry.specs.declared.fault.MetricFault.TheVariants.{Bad, NotBuilt}
 use Rattle.jfm_load.specs.Words.{halfword, word}
 use Rattle.jfm_load.specs.Parts.{lengths_of, contradict, lengths_in, design_kind, is_jis, char_type_of, first_type_kind, type_kind, char_info_of, info_kind, fix_kind, zero_kind}
@@ -86,3 +84,6 @@ class_of_a_cell = refl
 
 zw_and_zh : (scaled (param_of full_width 6) 655360 ≡ pos 655360) × (scaled (param_of full_width 5) 655360 ≡ pos 655360)
 zw_and_zh = (refl, refl)
+
+a_negative_measure_is_rounded_down : (scaled (negsuc 131071) 655360 ≡ negsuc 81919) × (scaled (negsuc 131071) 1 ≡ negsuc 0)
+a_negative_measure_is_rounded_down = (refl, refl)

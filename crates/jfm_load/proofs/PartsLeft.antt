@@ -1,5 +1,5 @@
 -- What a table's reader has left to do gives what its start gave.
-use Rattle.std.proofs.Common.{◌≡◌, ℕ, zero, suc, ◌+◌, ◌*◌, ◌-◌, ◌≤◌, ◌<◌, List, [], ◌∷◌, ◌++◌, map, Option, Some, None, Result, Ok, Err, arith, refl, ap, append_assoc, append-nil, sym, ◌∙◌, ℤ}
+use Rattle.std.proofs.Common.{◌≡◌, ℕ, zero, suc, ◌+◌, ◌*◌, ◌-◌, ◌≤◌, ◌<◌, List, [], ◌∷◌, ◌++◌, Option, Some, None, Result, Ok, Err, arith, refl, append_assoc, append-nil, ◌∙◌}
 use Rattle.ts_geometry.specs.declared.fault.BadKind.{BadKind}
 use Rattle.ts_geometry.specs.declared.fault.MetricFault.{MetricFault}
 use Rattle.ts_geometry.specs.declared.fault.MetricFault.TheVariants.{Bad}
@@ -8,7 +8,7 @@ use Rattle.ts_outside.specs.Agreement.{AgreesFault}
 use Rattle.jfm_load.specs.Metrics.{cause}
 use Rattle.jfm_load.specs.Words.{word, words}
 use Rattle.jfm_load.specs.Left.{types_left, left, unchecked}
-use Rattle.jfm_load.specs.Parts.{checked, char_type_of, type_kind, later_type_kinds}
+use Rattle.jfm_load.specs.Parts.{char_type_of, type_kind}
 
 pub words-more : (file : List ℕ) (i end : ℕ) → i < end → words file i (end - i) ≡ word file i ∷ words file (i + 1) (end - (i + 1))
 words-more file i end h =

@@ -1,13 +1,12 @@
 -- A fix word within 16 of 0 is at each size within 16 times that size.
-use Rattle.std.proofs.Common.{◌≡◌, ℕ, zero, suc, ◌+◌, ◌*◌, ◌-◌, ◌/◌, ◌≤◌, ◌<◌, Bool, true, ℤ, pos, negsuc, neg_ℤ, ◌≤ℤ◌, ◌*ℤ◌, arith, List, length, map, get_or, refl}
+use Rattle.std.proofs.Common.{◌≡◌, ℕ, zero, suc, ◌*◌, ◌≤◌, ◌<◌, true, ℤ, pos, negsuc, neg_ℤ, arith, List, length, map, get_or, refl}
 use Rattle.std.specs.Int.{int_div_euclid}
 use Rattle.std.proofs.Math.Nat.{mul-le-mul_right}
 use Rattle.std.proofs.lemmas.Bool.Decides.{nat_tests}
 use Rattle.std.proofs.lemmas.Int.{ints}
 use Rattle.std.proofs.lemmas.List.{get_or-map}
-use Rattle.ts_geometry.specs.declared.measure.Measures.{Measures}
 use Rattle.jfm_load.specs.declared.tables.CharInfo.{CharInfo}
-use Rattle.jfm_load.specs.Metrics.{Metric, FixMeasures, measures_in, no_measures, measures_of, scaled}
+use Rattle.jfm_load.specs.Metrics.{Metric, measures_in, no_measures, measures_of, scaled}
 use Rattle.jfm_load.specs.Sound.{is_fix, IsWithin}
 
 -- below 0 the quotient is rounded away from 0

@@ -1,16 +1,14 @@
 -- What the definitions say of lengths and tables without a fault.
-use Rattle.std.proofs.Common.{◌≡◌, ◌≢◌, ℕ, zero, suc, ◌+◌, ◌*◌, ◌-◌, ◌/◌, ◌%◌, ◌≤◌, ◌<◌, Bool, true, false, List, [], ◌∷◌, length, map, ◌||◌, ◌&&◌, not, nat_lt, nat_le, ◌==◌, if◌then◌else◌, IsTrue, Option, Some, None, Result, Ok, Err, arith, refl, ap, sym, ◌∙◌, ℤ, pos}
+use Rattle.std.proofs.Common.{◌≡◌, ℕ, zero, suc, ◌+◌, ◌*◌, ◌/◌, ◌%◌, ◌≤◌, ◌<◌, Bool, true, false, List, [], ◌∷◌, length, map, ◌||◌, ◌&&◌, not, nat_lt, nat_le, ◌==◌, if◌then◌else◌, Option, Some, None, Ok, arith, refl, ap, sym, ◌∙◌, ℤ}
 use Rattle.std.proofs.lemmas.Bool.Decides.{nat_tests}
 use Rattle.std.proofs.lemmas.List.{length-map}
 use Rattle.std.specs.List.{list_all}
 use Rattle.ts_geometry.specs.declared.fault.BadKind.{BadKind}
-use Rattle.ts_geometry.specs.declared.fault.MetricFault.{MetricFault}
-use Rattle.ts_geometry.specs.declared.fault.MetricFault.TheVariants.{Bad}
 use Rattle.jfm_load.specs.declared.lengths.Lengths.{Lengths}
 use Rattle.jfm_load.specs.declared.tables.CharType.{CharType}
 use Rattle.jfm_load.specs.declared.tables.CharInfo.{CharInfo}
 use Rattle.jfm_load.specs.Words.{word, words, first_byte, first_half, second_byte, third_byte, fourth_byte}
-use Rattle.jfm_load.specs.Parts.{contradict, file_end, checked, design_kind, design_in, char_type_of, first_type_kind, type_kind, later_type_kinds, type_kinds, char_types_in, is_jis, char_info_of, info_kind, char_infos_in, fix_of, fix_kind, zero_kind, table_kinds, table_in, class_count, char_type_start, char_info_start, header_start}
+use Rattle.jfm_load.specs.Parts.{contradict, checked, design_kind, design_in, char_type_of, first_type_kind, type_kind, later_type_kinds, type_kinds, char_types_in, is_jis, char_info_of, info_kind, char_infos_in, fix_of, fix_kind, zero_kind, table_kinds, table_in, class_count, char_type_start, char_info_start}
 use Rattle.jfm_load.specs.Sound.{AreSound, AreTables, rise, rise_from, has_class, has_places, is_fix}
 
 pub sound_lengths : (l : Lengths) (size : ℕ) → contradict l ≡ false → 4 * l.lf ≤ size → l.lf ≤ 65535 → AreSound l size

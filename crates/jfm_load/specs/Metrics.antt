@@ -1,15 +1,14 @@
 -- The metric that a JFM spells, or its first fault, and what a metric says of its characters (the JFM specification).
-use Rattle.std.specs.Prelude.{ℕ, ◌+◌, ◌*◌, ◌-◌, ◌^◌, ℤ, pos, ◌*ℤ◌, Bool, List, [], ◌∷◌, map, slice_index_or, Result, Ok, Err, ◌==◌, if◌then◌else◌}
+use Rattle.std.specs.Prelude.{ℕ, ◌+◌, ◌*◌, ◌-◌, ℤ, pos, ◌*ℤ◌, Bool, List, [], ◌∷◌, map, slice_index_or, Result, Ok, ◌==◌, if◌then◌else◌}
 use Rattle.std.specs.Int.{int_div_euclid}
 use Rattle.ts_geometry.specs.declared.fault.MetricFault.{MetricFault}
 use Rattle.ts_geometry.specs.declared.fault.MetricFault.TheVariants.{Bad, NotBuilt, NoMemory}
-use Rattle.ts_geometry.specs.declared.measure.Sp.{Sp}
 use Rattle.ts_geometry.specs.declared.measure.Measures.{Measures}
 use Rattle.jis_codes.specs.Kuten.{Kuten}
 use Rattle.ts_outside.specs.Agreement.{◌>>=◌, Cause, Determined, Free}
 use Rattle.jfm_load.specs.declared.tables.CharType.{CharType}
 use Rattle.jfm_load.specs.declared.tables.CharInfo.{CharInfo}
-use Rattle.jfm_load.specs.Words.{halfword, word}
+use Rattle.jfm_load.specs.Words.{word}
 use Rattle.jfm_load.specs.Parts.{header_start, lengths_in, design_in, char_types_in, char_infos_in, table_in, params_in, width_start, height_start, depth_start, italic_start, param_start}
 
 -- the measures of a class, as fix words

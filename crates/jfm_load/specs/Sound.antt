@@ -1,5 +1,5 @@
 -- What is true of the lengths and the tables of a metric that has no fault.
-use Rattle.std.specs.Prelude.{◌≡◌, ℕ, zero, ◌+◌, ◌*◌, ◌≤◌, ◌<◌, ℤ, pos, negsuc, neg_ℤ, ◌≤ℤ◌, Bool, true, List, [], ◌∷◌, length, nat_lt, ◌&&◌, IsTrue}
+use Rattle.std.specs.Prelude.{◌≡◌, ℕ, ◌*◌, ◌≤◌, ◌<◌, ℤ, pos, negsuc, neg_ℤ, ◌≤ℤ◌, Bool, true, List, [], ◌∷◌, length, nat_lt, ◌&&◌, IsTrue}
 use Rattle.std.specs.List.{list_all}
 use Rattle.jfm_load.specs.declared.lengths.Lengths.{Lengths}
 use Rattle.jfm_load.specs.declared.tables.CharType.{CharType}

@@ -132,8 +132,8 @@ impl Japanese {
         }
     }
 
-    /// A parameter as a fix word, counted from 1: 0 where there is none. Of a size that is 2^20 the
-    /// fix word is its number of scaled points.
+    /// A parameter, counted from 1, as a fix word: a part of the size, with 20 binary places. It is 0
+    /// where the font has none of that number.
     pub fn param(&self, n: u16) -> i32
         ensures { result ≡ param_of self.now n }
     {

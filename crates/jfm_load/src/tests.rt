@@ -1,8 +1,10 @@
 //! Metrics and their faults.
 
+ghost use Rattle.std.specs.Prelude.{◌<◌, ◌^◌};
+
 use super::*;
 use jis_codes::Cell;
-use std::alloc::{AllocError, Global};
+use std::alloc::Global;
 use std::test::Fail;
 use ts_geometry::{BadKind, Measures, MetricFault, Sp};
 
@@ -70,7 +72,7 @@ const LISTED: [u32; 31] = [
     0x0018_0000,
 ];
 
-fn bytes_of(alloc: Global, words: &[u32]) -> Result<Vec<u8>, AllocError> {
+fn bytes_of(alloc: Global, words: &[u32]) -> Result<Vec<u8>, Fail> {
     let mut bytes = Vec::new(alloc);
     for word in words {
         bytes.extend_from_slice(&word.to_be_bytes())?;
@@ -78,26 +80,67 @@ fn bytes_of(alloc: Global, words: &[u32]) -> Result<Vec<u8>, AllocError> {
     Ok(bytes)
 }
 
+// The bytes of `JP10` with one other byte at each of these places.
+fn jp10_with(alloc: Global, changes: &[(usize, u8)]) -> Result<Vec<u8>, Fail> {
+    let mut bytes = bytes_of(alloc, &JP10)?;
+    for change in changes {
+        *bytes.get_mut(change.0).ok_or("short")? = change.1;
+    }
+    Ok(bytes)
+}
+
+fn fault_of(alloc: Global, bytes: &[u8]) -> Option<MetricFault> {
+    read(alloc, bytes).err()
+}
+
+fn cell(row: u8, place: u8) -> Result<Cell, Fail> {
+    Ok(Cell::new(row, place).ok_or("no cell")?)
+}
+
+fn measures_at(font: &Japanese, cell: Cell, z: u32) -> Measures
+    requires { z < 2 ^ 23 }
+{
+    font.measures(font.class(cell), z)
+}
+
+fn measures(wd: i64, ht: i64, dp: i64) -> Measures {
+    Measures {
+        wd: Sp(wd),
+        ht: Sp(ht),
+        dp: Sp(dp),
+    }
+}
+
 #[test]
 fn a_metric_of_one_class_gives_full_widths(rt: HostRuntime) -> Result<(), Fail> {
     let mut bytes = bytes_of(rt.alloc(), &JP10)?;
+    // what stands after the metric is ignored
     bytes.extend_from_slice(&[1, 2, 3])?;
     let font = read(rt.alloc(), &bytes)?;
-    assert_eq!(rt; font.is_tate(), false);
+    assert!(rt; !font.is_tate());
     assert_eq!(rt; font.check_sum(), 0);
     assert_eq!(rt; font.design(), 655360);
-    for (row, place) in [(1, 1), (4, 2), (94, 94)] {
-        assert_eq!(rt; font.class(Cell::new(row, place).ok_or("no cell")?), 0);
+    assert_eq!(rt;
+        measures_at(&font, cell(16, 1)?, 655360),
+        measures(655360, 573440, 81920)
+    );
+    Ok(())
+}
+
+#[test]
+fn cells_that_are_not_listed_have_class_0(rt: HostRuntime) -> Result<(), Fail> {
+    let font = read(rt.alloc(), &bytes_of(rt.alloc(), &JP10)?)?;
+    for row in 1..95 {
+        assert_eq!(rt; font.class(cell(row, row)?), 0);
     }
-    let class = font.class(Cell::new(16, 1).ok_or("no cell")?);
-    let full = Measures {
-        wd: Sp(655360),
-        ht: Sp(573440),
-        dp: Sp(81920),
-    };
-    assert_eq!(rt; font.measures(class, 655360), full);
+    Ok(())
+}
+
+#[test]
+fn a_parameter_that_is_absent_is_0(rt: HostRuntime) -> Result<(), Fail> {
+    let font = read(rt.alloc(), &bytes_of(rt.alloc(), &JP10)?)?;
     for (n, fix) in [(0, 0), (1, 0), (5, 1048576), (6, 1048576), (7, 0)] {
-        assert_eq!(rt; font.param(n), fix, "parameter {n}");
+        assert_eq!(rt; font.param(n), fix);
     }
     Ok(())
 }
@@ -105,14 +148,7 @@ fn a_metric_of_one_class_gives_full_widths(rt: HostRuntime) -> Result<(), Fail> 
 #[test]
 fn listed_codes_have_their_classes(rt: HostRuntime) -> Result<(), Fail> {
     let font = read(rt.alloc(), &bytes_of(rt.alloc(), &LISTED)?)?;
-    assert_eq!(rt; font.check_sum(), 0x1234_5678);
-    assert_eq!(rt; font.param(1), -65536);
-    let half = Measures {
-        wd: Sp(327680),
-        ht: Sp(573440),
-        dp: Sp(-81920),
-    };
-    for (row, place, class) in [
+    let classes = [
         (1, 1, 0),
         (1, 2, 2),
         (1, 3, 2),
@@ -121,36 +157,41 @@ fn listed_codes_have_their_classes(rt: HostRuntime) -> Result<(), Fail> {
         (1, 56, 0),
         (2, 2, 0),
         (33, 34, 0),
-    ] {
-        assert_eq!(rt;
-            font.class(Cell::new(row, place).ok_or("no cell")?),
-            class,
-            "of {row} {place}"
-        );
+    ];
+    for (row, place, class) in classes {
+        assert_eq!(rt; font.class(cell(row, place)?), class);
     }
-    let opening = font.class(Cell::new(1, 54).ok_or("no cell")?);
-    assert_eq!(rt; font.measures(opening, 655360), half);
-    assert_eq!(rt;
-        font.measures(opening, 1),
-        Measures {
-            wd: Sp(0),
-            ht: Sp(0),
-            dp: Sp(-1)
-        }
-    );
     Ok(())
 }
 
 #[test]
-fn the_first_fault_counts(rt: HostRuntime) -> Result<(), Fail> {
+fn measures_are_rounded_down(rt: HostRuntime) -> Result<(), Fail> {
+    let font = read(rt.alloc(), &bytes_of(rt.alloc(), &LISTED)?)?;
+    assert_eq!(rt; font.check_sum(), 0x1234_5678);
+    assert_eq!(rt; font.param(1), -65536);
+    assert_eq!(rt;
+        measures_at(&font, cell(1, 54)?, 655360),
+        measures(327680, 573440, -81920)
+    );
+    assert_eq!(rt; measures_at(&font, cell(1, 54)?, 1), measures(0, 0, -1));
+    Ok(())
+}
+
+#[test]
+fn a_cut_metric_is_truncated_at_its_length(rt: HostRuntime) -> Result<(), Fail> {
     let whole = bytes_of(rt.alloc(), &JP10)?;
     for len in [0usize, 1, 27, 95] {
         let fault = MetricFault::Bad(BadKind::Truncated, len as u32);
         assert_eq!(rt;
-            read(rt.alloc(), whole.get(..len).ok_or("short")?).err(),
+            fault_of(rt.alloc(), whole.get(..len).ok_or("short")?),
             Some(fault)
         );
     }
+    Ok(())
+}
+
+#[test]
+fn the_first_bad_word_counts(rt: HostRuntime) -> Result<(), Fail> {
     let faults = [
         (1, 12, MetricFault::NotBuilt),
         (5, 0x19, MetricFault::Bad(BadKind::Lengths, 0)),
@@ -161,33 +202,28 @@ fn the_first_fault_counts(rt: HostRuntime) -> Result<(), Fail> {
         (48, 1, MetricFault::Bad(BadKind::FixWord, 48)),
     ];
     for (at, byte, fault) in faults {
-        let mut bytes = bytes_of(rt.alloc(), &JP10)?;
-        *bytes.get_mut(at).ok_or("short")? = byte;
-        assert_eq!(rt; read(rt.alloc(), &bytes).err(), Some(fault), "byte {at}");
+        let bytes = jp10_with(rt.alloc(), &[(at, byte)])?;
+        assert_eq!(rt; fault_of(rt.alloc(), &bytes), Some(fault));
     }
     Ok(())
 }
 
 #[test]
-fn tate_metrics_are_known_and_programs_not_built(rt: HostRuntime) -> Result<(), Fail> {
-    let mut bytes = bytes_of(rt.alloc(), &JP10)?;
-    for (at, byte) in [(1, 9), (57, 8), (65, 8)] {
-        *bytes.get_mut(at).ok_or("short")? = byte;
-    }
+fn a_metric_may_be_for_tate(rt: HostRuntime) -> Result<(), Fail> {
+    let bytes = jp10_with(rt.alloc(), &[(1, 9), (57, 8), (65, 8)])?;
     let font = read(rt.alloc(), &bytes)?;
-    assert_eq!(rt; font.is_tate(), true);
-    let class = font.class(Cell::new(16, 1).ok_or("no cell")?);
-    let full = Measures {
-        wd: Sp(655360),
-        ht: Sp(327680),
-        dp: Sp(327680),
-    };
-    assert_eq!(rt; font.measures(class, 655360), full);
-    // one more word, of glue_kern
-    for (at, byte) in [(5, 0x19), (21, 1)] {
-        *bytes.get_mut(at).ok_or("short")? = byte;
-    }
+    assert!(rt; font.is_tate());
+    assert_eq!(rt;
+        measures_at(&font, cell(16, 1)?, 655360),
+        measures(655360, 327680, 327680)
+    );
+    Ok(())
+}
+
+#[test]
+fn glue_and_kerns_are_not_built(rt: HostRuntime) -> Result<(), Fail> {
+    let mut bytes = jp10_with(rt.alloc(), &[(5, 0x19), (21, 1)])?;
     bytes.extend_from_slice(&[0; 4])?;
-    assert_eq!(rt; read(rt.alloc(), &bytes).err(), Some(MetricFault::NotBuilt));
+    assert_eq!(rt; fault_of(rt.alloc(), &bytes), Some(MetricFault::NotBuilt));
     Ok(())
 }

@@ -1,6 +1,5 @@
 use Rattle.std.proofs.Common.{◌≡◌, rules, arith, FitsSigned, w64, to_z-of_z}
 use Rattle.std.proofs.lemmas.Grind.{common_steps}
-use Rattle.jfm_load.specs.Sound.{IsWithin}
 use Rattle.jfm_load.specs.Metrics.{scaled as scaled_of}
 use Rattle.jfm_load.proofs.Scaling.{scaled-within}
 use Rattle.jfm_load.proofs.japanese.scaled.Goals as goal

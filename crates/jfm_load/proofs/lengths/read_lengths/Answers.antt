@@ -1,5 +1,4 @@
-use Rattle.std.proofs.Common.{◌≡◌, ◌*◌, ◌≤◌, length, false, arith, rules, ◌∙◌, sym}
-use Rattle.jfm_load.specs.Parts.{contradict}
+use Rattle.std.proofs.Common.{length, arith, rules}
 use Rattle.jfm_load.proofs.SoundParts.{sound_lengths}
 use Rattle.jfm_load.proofs.lengths.read_lengths.Goals as goal
 

@@ -1,6 +1,5 @@
-use Rattle.std.proofs.Common.{arith, sym, ◌∙◌, map}
-use Rattle.jfm_load.specs.Words.{words}
-use Rattle.jfm_load.specs.Parts.{fix_kind, fix_of}
+use Rattle.std.proofs.Common.{arith, sym, ◌∙◌}
+use Rattle.jfm_load.specs.Parts.{fix_kind}
 use Rattle.jfm_load.proofs.PartsLeft.{unchecked-more, unchecked-bad, refused}
 use Rattle.jfm_load.proofs.parts.check_table.Goals as goal
 

@@ -1,4 +1,4 @@
-use Rattle.std.proofs.Common.{arith, rules, sym, ◌∙◌}
+use Rattle.std.proofs.Common.{arith, sym, ◌∙◌}
 use Rattle.jfm_load.proofs.PartsLeft.{types_left-more, types_left-bad, refused}
 use Rattle.jfm_load.proofs.parts.read_char_types.Goals as goal
 

@@ -1,4 +1,4 @@
-use Rattle.std.proofs.Common.{arith, rules, FitsSigned, w64, to_z-of_z, sym, ap, ◌∙◌, subst, ◌≡◌, length, ◌<◌}
+use Rattle.std.proofs.Common.{arith, rules, FitsSigned, w64, to_z-of_z, ap, length, ◌<◌}
 use Rattle.std.proofs.lemmas.List.{length-map}
 use Rattle.jfm_load.proofs.Scaling.{measures_of-places}
 use Rattle.jfm_load.proofs.japanese.Japanese.measures.Goals as goal
