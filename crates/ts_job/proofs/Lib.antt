@@ -1,3 +1,6 @@
 pub mod Puts
 pub mod Body
 pub mod Read
+pub mod Forms
+pub mod Loads
+pub mod Boxes

@@ -1,2 +1,11 @@
 pub mod Meant
 pub mod Written
+pub mod Words
+pub mod Form
+pub mod FormSeen
+pub mod Meaning
+pub mod Setting
+pub mod Loading
+pub mod Statuses
+pub mod Texts
+pub mod Promise

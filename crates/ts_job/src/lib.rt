@@ -1,4 +1,14 @@
 //! A job of typesetting: from the words of a command line to the bytes of a DVI file.
 #![tactic(auto)]
 
+mod fault;
+mod form;
+mod load;
+mod outcome;
+mod setting;
+mod stop;
+mod words;
 mod writer;
+
+pub use fault::{Fault, FaultKind, Place};
+pub use outcome::Outcome;

@@ -1,0 +1,32 @@
+-- The parts of a form.
+use Rattle.std.proofs.Common.{◌≡◌, ℕ, ◌+◌, ◌≤◌, ◌<◌, List, [], ◌∷◌, ◌++◌, length, drop, take, get_or, Bool, true, false, Option, Some, None, refl, ap, sym, ◌∙◌, arith, cond, suc, zero}
+use Rattle.std.specs.Prelude.{option_map}
+use Rattle.jis_codes.specs.declared.character.Char.{Char}
+use Rattle.jis_codes.specs.declared.character.Char.TheVariants.{One, Ja}
+use Rattle.ts_job.specs.Form.{behind}
+
+within : (test : Bool) (text : List ℕ) (b : ℕ) (one : Char) (others rest : List Char) → cond test (behind [] others) None ≡ Some rest → cond test (behind text others) None ≡ behind text rest
+within true text b one others rest found = let same : others ≡ rest = cc in rw same refl
+within false text b one others rest found = absurd cc
+
+nothing_within : (test : Bool) (others : List Char) (found : Option (List Char)) → cond test (Some others) None ≡ None → cond test found None ≡ None
+nothing_within true others found missing = absurd cc
+nothing_within false others found missing = refl
+
+-- A byte of the text is there.
+pub behind_more : (text : List ℕ) (i : ℕ) (characters rest : List Char) → i < length text → behind (get_or text i 0 ∷ []) characters ≡ Some rest → behind (drop i text) characters ≡ behind (drop (i + 1) text) rest
+behind_more [] i characters rest lt found = absurd (omega arith)
+behind_more (b ∷ text) zero [] rest lt found = absurd cc
+behind_more (b ∷ text) zero (One c ∷ others) rest lt found = within _ text b (One c) others rest found
+behind_more (b ∷ text) zero (Ja k ∷ others) rest lt found = absurd cc
+behind_more (b ∷ text) (suc i) characters rest lt found =
+    let e : suc i + 1 ≡ suc (i + 1) = omega arith in
+    rw e (behind_more text i characters rest (omega arith) found)
+
+-- A byte of the text isn't there.
+pub behind_none : (text : List ℕ) (i : ℕ) (characters : List Char) → i < length text → behind (get_or text i 0 ∷ []) characters ≡ None → behind (drop i text) characters ≡ None
+behind_none [] i characters lt missing = absurd (omega arith)
+behind_none (b ∷ text) zero [] lt missing = refl
+behind_none (b ∷ text) zero (One c ∷ others) lt missing = nothing_within _ others (behind text others) missing
+behind_none (b ∷ text) zero (Ja k ∷ others) lt missing = refl
+behind_none (b ∷ text) (suc i) characters lt missing = behind_none text i characters (omega arith) missing

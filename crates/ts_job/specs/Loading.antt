@@ -1,0 +1,19 @@
+-- The first bytes of a file that is held.
+use Rattle.std.specs.Prelude.{ℕ, List, take, Result, Ok, Err, Option, Some, None}
+use Rattle.ts_outside.specs.Agreement.{Cause, Determined, Counted, Free}
+use Rattle.ts_outside.specs.Reading.{Held, bytes_of}
+use Rattle.ts_job.specs.declared.load.LoadFault.{LoadFault}
+use Rattle.ts_job.specs.declared.load.LoadFault.TheVariants as faults
+
+abbrev pub load_cause : LoadFault → Cause
+load_cause faults.Missing = Determined
+load_cause faults.ReadFault = Counted
+load_cause faults.NoMemory = Free
+
+abbrev pub first_of : ℕ → Option (List ℕ) → Result (List ℕ) LoadFault
+first_of most None = Err faults.Missing
+first_of most (Some bytes) = Ok (take most bytes)
+
+-- at most so many bytes of the file of a name
+abbrev pub loaded : List Held → List ℕ → ℕ → Result (List ℕ) LoadFault
+loaded files name most = first_of most (bytes_of files name)

@@ -1,0 +1,98 @@
+-- What a source means: the page that it ships, or its first fault.
+use Rattle.std.specs.Prelude.{ℕ, ◌+◌, List, [], ◌∷◌, ℤ, pos, ◌+ℤ◌, Bool, Result, Ok, Err, IfErr, ◌≡◌, Option, Some, None, ◌==◌, ◌&&◌, fold, map, not, if◌then◌else◌}
+use Rattle.std.specs.Int.{int_max}
+use Rattle.ts_geometry.specs.declared.fault.MetricFault.{MetricFault}
+use Rattle.ts_geometry.specs.declared.fault.MetricFault.TheVariants.{Bad, NotBuilt, NoMemory as MetricNoMemory}
+use Rattle.jis_codes.specs.Kuten.{Kuten}
+use Rattle.ts_outside.specs.Agreement.{◌>>=◌, Cause, Determined, Counted, Free}
+use Rattle.ts_outside.specs.Reading.{Held, bytes_of}
+use Rattle.ts_outside.specs.Endings.{with_ending, metric_ending}
+use Rattle.jfm_load.specs.Metrics.{Metric, metric_of, jis_of, class_of, measures_of}
+use Rattle.dvi_code.specs.declared.font.FontDef.{FontDef}
+use Rattle.dvi_code.specs.declared.page.DviPage.{DviPage}
+use Rattle.ts_job.specs.declared.fault.FaultKind.{FaultKind}
+use Rattle.ts_job.specs.declared.fault.FaultKind.TheVariants.{FileMissing, FontBad, FormNotBuilt}
+use Rattle.ts_job.specs.declared.stop.Stop.{Stop}
+use Rattle.ts_job.specs.declared.stop.Stop.TheVariants as stops
+use Rattle.ts_job.specs.declared.writer.page.Glyph.{Glyph}
+use Rattle.ts_job.specs.Form.{Form, form_in}
+use Rattle.ts_job.specs.Meant.{page_meant}
+
+-- what is there, or a fault at a line
+abbrev pub or_fault : {X : Type 0} → FaultKind → ℕ → Option X → Result X Stop
+or_fault kind line None = Err (stops.Fault kind line)
+or_fault kind line (Some x) = Ok x
+
+-- the form of the main file
+unfoldable pub source_form : List Held → List ℕ → Result Form Stop
+source_form files main = or_fault FileMissing 0 (bytes_of files main) >>= λ bytes. or_fault FormNotBuilt 0 (form_in bytes)
+
+-- a metric's fault is the fault of its font, but for what isn't built yet
+abbrev pub font_fault : MetricFault → Stop
+font_fault (Bad kind at) = stops.Fault (FontBad kind at) 1
+font_fault NotBuilt = stops.Fault FormNotBuilt 0
+font_fault MetricNoMemory = stops.NoMemory
+
+abbrev pub or_font_fault : {X : Type 0} → Result X MetricFault → Result X Stop
+or_font_fault (Ok x) = Ok x
+or_font_fault (Err fault) = Err (font_fault fault)
+
+-- 10 pt in scaled points
+abbrev pub ten_points : ℕ
+ten_points = 655360
+
+-- a metric for yoko lines of the one size that is built
+abbrev pub is_built : Metric → Bool
+is_built metric = not metric.is_tate && metric.design == ten_points
+
+abbrev pub or_not_built : Metric → Result Metric Stop
+or_not_built metric = if is_built metric then Ok metric else Err (stops.Fault FormNotBuilt 0)
+
+-- the metric of the form's font
+unfoldable pub font_metric : List Held → Form → Result Metric Stop
+font_metric files form = or_fault FileMissing 1 (bytes_of files (with_ending metric_ending form.name)) >>= λ bytes. or_font_fault (metric_of bytes) >>= or_not_built
+
+-- the measures of a character
+abbrev pub width_of : Metric → Kuten → ℤ
+width_of metric k = (measures_of metric (class_of metric k) ten_points).wd.0
+
+abbrev pub height_of : Metric → Kuten → ℤ
+height_of metric k = (measures_of metric (class_of metric k) ten_points).ht.0
+
+abbrev pub depth_of : Metric → Kuten → ℤ
+depth_of metric k = (measures_of metric (class_of metric k) ten_points).dp.0
+
+-- the height of a box of characters: the greatest of theirs and 0
+abbrev pub box_height : Metric → List Kuten → ℤ
+box_height metric cells = fold int_max (pos 0) (map (height_of metric) cells)
+
+-- and its depth
+abbrev pub box_depth : Metric → List Kuten → ℤ
+box_depth metric cells = fold int_max (pos 0) (map (depth_of metric) cells)
+
+-- characters side by side, from a point on
+abbrev pub glyphs_from : Metric → ℤ → ℤ → List Kuten → List Glyph
+glyphs_from metric x y [] = []
+glyphs_from metric x y (k ∷ ks) =
+    record { code = jis_of k; at = record { x = record { 0 = x }; y = record { 0 = y } } } ∷ glyphs_from metric (x +ℤ width_of metric k) y ks
+
+abbrev pub font_def : Form → Metric → FontDef
+font_def form metric = record { number = pos 0; check_sum = metric.check_sum; size = ten_points; design = ten_points; name = form.name }
+
+-- the page of a box of characters, whose top left corner is the page's
+abbrev pub page_of : Form → Metric → DviPage
+page_of form metric = page_meant (font_def form metric) (glyphs_from metric (pos 0) (box_height metric form.cells) form.cells)
+
+-- the page that a source ships, or its first fault
+unfoldable pub typeset : List Held → List ℕ → Result DviPage Stop
+typeset files main = source_form files main >>= λ form. font_metric files form >>= λ metric. Ok (page_of form metric)
+
+-- memory ran out, if anything went wrong
+abbrev pub OnlyWantOfMemory : {X : Type 0} → Result X Stop → Type 0
+OnlyWantOfMemory result = IfErr result (λ stop. stop ≡ stops.NoMemory)
+
+-- why a job stops
+abbrev pub stop_cause : Stop → Cause
+stop_cause (stops.Fault kind line) = Determined
+stop_cause stops.ReadFault = Counted
+stop_cause stops.NoMemory = Free
