@@ -1,0 +1,1 @@
+-- The characters of a line, item by item.

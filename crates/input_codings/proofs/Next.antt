@@ -1,0 +1,1 @@
+-- The next line of what is left of a file.
