@@ -5,7 +5,7 @@ use Rattle.std.proofs.lemmas.List.{drop-take, drop-drop, take-append-drop}
 use Rattle.ts_outside.specs.declared.files.Got.{Got}
 use Rattle.ts_outside.specs.declared.files.Got.TheVariants as got
 use Rattle.ts_outside.specs.Reading.{Gives}
-use Rattle.input_codings.specs.Reading.{Moves, EndsAt, behind}
+use Rattle.input_codings.specs.Reading.{Moves, EndsAt, behind, SourceView, KeepsBytes}
 
 -- the first bytes of a block are used
 pub skipped : (xs : List ℕ) (s n e : ℕ) → s + n ≤ e → take (e - (s + n)) (drop (s + n) xs) ≡ drop n (take (e - s) (drop s xs))
@@ -47,3 +47,8 @@ room_left xs s n e h few = omega (arith, length-take (e - s) (drop s xs))
 pub ends_end : (buffer : List ℕ) (before after : Option (List ℕ)) → Gives before got.End buffer after → behind false before ≡ []
 ends_end buffer None after gives = refl
 ends_end buffer (Some left) after gives = gives.0
+
+pub keeps_more : (old between new : SourceView) (f g h : ℕ → Option (List ℕ)) → between.file ≡ old.file → KeepsBytes old (f old.file) between (g old.file) → KeepsBytes between (g between.file) new (h between.file) → KeepsBytes old (f old.file) new (h old.file)
+keeps_more old between new f g h same first second =
+    let then_second = rw same at second in
+    λ told. let one = first told in let two = then_second one.0 in (two.0, two.1 ∙ one.1)

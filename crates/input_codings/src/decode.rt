@@ -45,7 +45,8 @@ fn push_spaces(chars: &mut Chars, count: usize) -> Result<(), LineFault>
     ensures all { OnOk result (chars.new ≡ chars.old ++ replicate count (One 32)) }
     ensures quiet { OnErr result (result ≡ Err LineFault.NoMemory) }
 {
-    for _ in 0..count {
+    for pushed in 0..count {
+        let _ = pushed;
         if chars.push(Char::One(32)).is_err() {
             return Err(LineFault::NoMemory);
         }
@@ -55,6 +56,7 @@ fn push_spaces(chars: &mut Chars, count: usize) -> Result<(), LineFault>
 
 // Appends a character behind so many characters 32, which wait: they are appended only if a
 // character other than 32 follows. Gives how many wait then.
+#[tactic(auto, using(crate::proofs::Decodes::trimmed_push))]
 fn push_behind(chars: &mut Chars, spaces: usize, c: Char) -> Result<usize, LineFault>
     requires { spaces < 65536 }
     ensures all { IfOk result
@@ -75,7 +77,9 @@ fn push_behind(chars: &mut Chars, spaces: usize, c: Char) -> Result<usize, LineF
 
 // How many bytes a character has.
 fn length_of(c: &Char) -> usize
-    ensures { result ≡ the_length_of c.now }
+    ensures value { result ≡ the_length_of c.now }
+    ensures least { 1 ≤ result }
+    ensures most { result ≤ 2 }
 {
     match c {
         Char::One(_) => 1,

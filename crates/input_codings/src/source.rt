@@ -32,14 +32,17 @@ impl Model for Source {
 }
 
 /// How many bytes stand before the first byte 10, or how many there are.
+#[tactic(auto, using(crate::proofs::Ends::before_steps))]
 fn bytes_before_ten(bytes: &[u8]) -> usize
     ensures value { result ≡ before_ten bytes.now }
     ensures most { result ≤ length bytes.now }
 {
-    match bytes.iter().position(|b| *b == 10) {
-        Some(place) => place,
-        None => bytes.len(),
+    for (place, b) in bytes.iter().enumerate() {
+        if *b == 10 {
+            return place;
+        }
     }
+    bytes.len()
 }
 
 impl Source {
@@ -81,6 +84,7 @@ impl Source {
         requires room { length self.old.buffered ≤ 65535 }
         ensures same { self.new.file ≡ self.old.file }
         ensures bytes { KeepsBytes self.old (F.left files.old self.old.file) self.new (F.left files.new self.old.file) }
+        ensures more { length self.old.buffered ≤ length self.new.buffered }
         ensures came { result ≡ Ok true → Grows self.old.buffered self.new.buffered }
         ensures ended { result ≡ Ok false → (self.new.buffered ≡ self.old.buffered) × (self.new.ended ≡ true) }
         ensures number { F.is_open files.new ≡ F.is_open files.old }
@@ -127,6 +131,7 @@ impl Source {
         requires { F.is_open files.old self.old.file ≡ true }
         ensures same { self.new.file ≡ self.old.file }
         ensures bytes { KeepsBytes self.old (F.left files.old self.old.file) self.new (F.left files.new self.old.file) }
+        ensures more { length self.old.buffered ≤ length self.new.buffered }
         ensures end { IfOk result (λ n. n ≡ before_ten self.new.buffered) }
         ensures most { IfOk result (λ n. n ≤ 65535) }
         ensures whole { IfOk result (λ n. n ≡ length self.new.buffered → self.new.ended ≡ true) }

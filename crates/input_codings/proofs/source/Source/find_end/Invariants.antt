@@ -11,6 +11,7 @@ invariant-find g l = record {
   number : g.F.Files.is_open l.files ≡ g.F.Files.is_open l.fn.files;
   others : (n : ℕ) → n ≢ l.fn.self.file → g.F.Files.left l.files n ≡ g.F.Files.left l.fn.files n;
   held : g.F.Files.held l.files ≡ g.F.Files.held l.fn.files;
+  more : length l.fn.self.buffered ≤ length l.self.buffered;
   counted : g.F.Files.faults l.files ≡ g.F.Files.faults l.fn.files;
 }
 
