@@ -1,0 +1,4 @@
+pub mod Decoding
+pub mod Pieces
+pub mod Reading
+pub mod Lines

@@ -1,0 +1,130 @@
+//! The lines of an open file, one after another.
+
+ghost use Rattle.std.specs.Prelude.{◌≡◌, ◌≢◌, ◌≤◌, ◌<◌, ◌+◌, ℕ, [], true, false, length, drop, IsSome, OnOk, OnErr, IfOk, IfSome, MatchResult, is_err};
+ghost use Rattle.ts_outside.specs.Agreement.{Agrees, Counts};
+ghost use Rattle.ts_outside.specs.Reading.{KeepsOthers, KeepsAll, bytes_of};
+ghost use Rattle.input_codings.specs.Lines.{next_line, opened, line_cause, open_cause, CountsLine};
+ghost use Rattle.input_codings.specs.Reading.{unread};
+
+use crate::block::Block;
+use crate::coding::Coding;
+use crate::decode::line_chars;
+use crate::fault::{LineFault, OpenFault};
+use crate::line::Line;
+use crate::source::Source;
+use std::alloc::Global;
+use std::marker::Model;
+use ts_outside::{FileName, Files, Opened};
+
+/// The most lines of a file.
+const MOST_LINES: u32 = 1_000_000;
+
+/// An open file whose lines are taken one after another. Contracts see what it keeps, and by
+/// `unread` what it stands for.
+#[derive(Drop)]
+pub struct Lines {
+    alloc: Global,
+    source: Source,
+    coding: Coding,
+    line_no: u32,
+    failed: bool,
+}
+
+impl Model for Lines {
+    ghost use Rattle.std.specs.Prelude.{◌≡◌, ◌≤◌, false};
+    ghost use Rattle.input_codings.specs.Reading.{LinesView};
+
+    ghost Value = { LinesView };
+
+    ghost view = { λ l. record { file = l.source.file; coding = l.coding; line_no = l.line_no; buffered = l.source.buffered; ended = l.source.ended; failed = l.failed } };
+
+    ghost invariant = { λ l. l.failed ≡ false → l.line_no ≤ 1000000 };
+}
+
+impl Lines {
+    /// Opens a file at its first line. Refused, it leaves open the files that were open.
+    pub fn open<F: Files>(alloc: Global, files: &mut F, name: &FileName, coding: Coding) -> Result<Lines, OpenFault>
+        ensures opens { IfSome (F.held files.old) (λ held. Agrees (λ lines. unread lines (F.left files.new lines.file)) open_cause result (opened coding (bytes_of held name.now))) }
+        ensures told { IfOk result (λ lines. IsSome (F.held files.old) → IsSome (F.left files.new lines.file)) }
+        ensures start { IfOk result (λ lines. lines ≡ record { file = lines.file; coding = coding; line_no = 0; buffered = []; ended = false; failed = false }) }
+        ensures fresh { IfOk result (λ lines. F.is_open files.old lines.file ≡ false) }
+        ensures open { IfOk result (λ lines. F.is_open files.new lines.file ≡ true) }
+        ensures others { IfOk result (λ lines. KeepsOthers lines.file (F.is_open files.old) (F.left files.old) (F.is_open files.new) (F.left files.new)) }
+        ensures refused { OnErr result (KeepsAll (F.is_open files.old) (F.left files.old) (F.is_open files.new) (F.left files.new)) }
+        ensures held { F.held files.new ≡ F.held files.old }
+        ensures counted { Counts open_cause result (F.faults files.old) (F.faults files.new) }
+    {
+        let Ok(block) = Block::new(alloc) else {
+            return Err(OpenFault::NoMemory);
+        };
+        let file = match files.open(name) {
+            Opened::Found(file) => file,
+            Opened::Missing => return Err(OpenFault::Missing),
+            Opened::Failed => return Err(OpenFault::ReadFault),
+            Opened::NoMemory => return Err(OpenFault::NoMemory),
+        };
+        Ok(Lines {
+            alloc,
+            source: Source::new(file, block),
+            coding,
+            line_no: 0,
+            failed: false,
+        })
+    }
+
+    /// The number of the last line that was needed and is there, or 0 before the first.
+    pub fn line_no(&self) -> u32
+        ensures { result ≡ self.now.line_no }
+    {
+        self.line_no
+    }
+
+    /// Whether a line was refused. No further line may be asked for then.
+    pub fn failed(&self) -> bool
+        ensures { result ≡ self.now.failed }
+    {
+        self.failed
+    }
+
+    /// The next line, or none at the end of the file. After a refusal it isn't asked for another.
+    pub fn next_line<F: Files>(&mut self, files: &mut F) -> Result<Option<Line>, LineFault>
+        requires open { F.is_open files.old self.old.file ≡ true }
+        requires unfailed { self.old.failed ≡ false }
+        ensures exact { IsSome (F.left files.old self.old.file) → Agrees (λ line. (line, unread self.new (F.left files.new self.old.file))) line_cause result (next_line (unread self.old (F.left files.old self.old.file))) }
+        ensures told { OnOk result (IsSome (F.left files.old self.old.file) → IsSome (F.left files.new self.old.file)) }
+        ensures file { self.new.file ≡ self.old.file }
+        ensures coding { self.new.coding ≡ self.old.coding }
+        ensures counts { CountsLine result self.old.line_no self.new.line_no }
+        ensures failed { self.new.failed ≡ is_err result }
+        ensures open { F.is_open files.new self.old.file ≡ true }
+        ensures others { KeepsOthers self.old.file (F.is_open files.old) (F.left files.old) (F.is_open files.new) (F.left files.new) }
+        ensures held { F.held files.new ≡ F.held files.old }
+        ensures counted { Counts line_cause result (F.faults files.old) (F.faults files.new) }
+    {
+        self.failed = true;
+        if !self.source.has_more(files)? {
+            self.failed = false;
+            return Ok(None);
+        }
+        self.line_no += 1;
+        if self.line_no > MOST_LINES {
+            return Err(LineFault::TooManyLines);
+        }
+        let count = self.source.find_end(files)?;
+        let chars = line_chars(self.alloc, self.coding, self.source.buffered(), count)?;
+        self.source.skip_line(count);
+        self.failed = false;
+        Ok(Some(Line::new(chars)))
+    }
+
+    /// Closes the file.
+    pub fn close<F: Files>(self, files: &mut F)
+        requires { F.is_open files.old self.file ≡ true }
+        ensures closed { F.is_open files.new self.file ≡ false }
+        ensures others { KeepsOthers self.file (F.is_open files.old) (F.left files.old) (F.is_open files.new) (F.left files.new) }
+        ensures held { F.held files.new ≡ F.held files.old }
+        ensures counted { F.faults files.new ≡ F.faults files.old }
+    {
+        self.source.close(files);
+    }
+}
