@@ -3,7 +3,7 @@ use Rattle.std.proofs.Common.{◌≡◌, ℕ, List, [], ◌∷◌, ◌++◌, ref
 use Rattle.ts_geometry.specs.declared.direction.Dir.TheVariants.{Yoko}
 use Rattle.dvi_code.specs.declared.fault.DviKind.TheVariants as kinds
 use Rattle.dvi_code.specs.declared.font.FontDef.{FontDef}
-use Rattle.dvi_code.specs.Endings.{with_ending, metric_ending}
+use Rattle.ts_outside.specs.Endings.{with_ending, metric_ending}
 use Rattle.dvi_code.specs.Fields.{unsigned, signed, counts}
 use Rattle.dvi_code.specs.Commands.{font_def_after, pre_after, post_after, command_after, command}
 use Rattle.dvi_code.specs.Places.{placed}

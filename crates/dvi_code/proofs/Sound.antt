@@ -5,7 +5,7 @@ use Rattle.std.specs.List.{list_all, list_any}
 use Rattle.std.proofs.lemmas.List.Folds.{list_all-append}
 use Rattle.ts_outside.specs.Names.{is_visible, is_file_name}
 use Rattle.dvi_code.specs.declared.font.FontDef.{FontDef}
-use Rattle.dvi_code.specs.Endings.{is_dot, last_part, metric_ending}
+use Rattle.ts_outside.specs.Endings.{is_dot, last_part, metric_ending}
 use Rattle.dvi_code.specs.Structure.{is_sound_font}
 
 both_true : (a b : Bool) → (a && b) ≡ true → (a ≡ true) × (b ≡ true)

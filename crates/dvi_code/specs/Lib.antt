@@ -1,4 +1,3 @@
-pub mod Endings
 pub mod Fields
 pub mod Commands
 pub mod Places

@@ -10,7 +10,7 @@ use Rattle.dvi_code.specs.declared.fault.DviKind.{DviKind}
 use Rattle.dvi_code.specs.declared.fault.DviKind.TheVariants as kinds
 use Rattle.dvi_code.specs.declared.fault.DviBad.{DviBad}
 use Rattle.dvi_code.specs.declared.font.FontDef.{FontDef}
-use Rattle.dvi_code.specs.Endings.{with_ending, metric_ending}
+use Rattle.ts_outside.specs.Endings.{with_ending, metric_ending}
 use Rattle.dvi_code.specs.Commands as c
 use Rattle.dvi_code.specs.Commands.{Command, Preamble, Postamble}
 use Rattle.dvi_code.specs.Places.{Item, Placed, said, bad, fill, placed}

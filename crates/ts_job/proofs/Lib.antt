@@ -4,3 +4,4 @@ pub mod Read
 pub mod Forms
 pub mod Loads
 pub mod Boxes
+pub mod Names

@@ -1,5 +1,5 @@
 -- What a source means: the page that it ships, or its first fault.
-use Rattle.std.specs.Prelude.{ℕ, ◌+◌, List, [], ◌∷◌, ℤ, pos, ◌+ℤ◌, Bool, Result, Ok, Err, IfErr, ◌≡◌, Option, Some, None, ◌==◌, ◌&&◌, fold, map, not, if◌then◌else◌}
+use Rattle.std.specs.Prelude.{ℕ, ◌+◌, List, [], ◌∷◌, ℤ, pos, ◌+ℤ◌, Bool, Result, Ok, Err, Option, Some, None, ◌==◌, ◌&&◌, fold, map, not, if◌then◌else◌}
 use Rattle.std.specs.Int.{int_max}
 use Rattle.ts_geometry.specs.declared.fault.MetricFault.{MetricFault}
 use Rattle.ts_geometry.specs.declared.fault.MetricFault.TheVariants.{Bad, NotBuilt, NoMemory as MetricNoMemory}
@@ -86,10 +86,6 @@ page_of form metric = page_meant (font_def form metric) (glyphs_from metric (pos
 -- the page that a source ships, or its first fault
 unfoldable pub typeset : List Held → List ℕ → Result DviPage Stop
 typeset files main = source_form files main >>= λ form. font_metric files form >>= λ metric. Ok (page_of form metric)
-
--- memory ran out, if anything went wrong
-abbrev pub OnlyWantOfMemory : {X : Type 0} → Result X Stop → Type 0
-OnlyWantOfMemory result = IfErr result (λ stop. stop ≡ stops.NoMemory)
 
 -- why a job stops
 abbrev pub stop_cause : Stop → Cause

@@ -22,6 +22,10 @@ pub record IsSound (form : Form) : Type 0 where
 abbrev pub IsSmall : ℤ → Type 0
 IsSmall z = (neg_ℤ (pos 10485760) ≤ℤ z) × (z ≤ℤ pos 10485760)
 
+-- at most fifty times as much
+abbrev pub IsNear : ℤ → Type 0
+IsNear z = (neg_ℤ (pos 524288000) ≤ℤ z) × (z ≤ℤ pos 524288000)
+
 -- a glyph of a cell, whose width in the metric is small
 pub record HasCell (metric : Metric) (glyph : Glyph) : Type 0 where
   pub cell : Kuten
