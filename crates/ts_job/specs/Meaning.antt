@@ -48,9 +48,13 @@ is_built metric = not metric.is_tate && metric.design == ten_points
 abbrev pub or_not_built : Metric → Result Metric Stop
 or_not_built metric = if is_built metric then Ok metric else Err (stops.Fault FormNotBuilt 0)
 
+-- the metric that is read, if it is one that is built
+abbrev pub built : Result Metric MetricFault → Result Metric Stop
+built metric = or_font_fault metric >>= or_not_built
+
 -- the metric of the form's font
 unfoldable pub font_metric : List Held → Form → Result Metric Stop
-font_metric files form = or_fault FileMissing 1 (bytes_of files (with_ending metric_ending form.name)) >>= λ bytes. or_font_fault (metric_of bytes) >>= or_not_built
+font_metric files form = or_fault FileMissing 1 (bytes_of files (with_ending metric_ending form.name)) >>= λ bytes. built (metric_of bytes)
 
 -- the measures of a character
 abbrev pub width_of : Metric → Kuten → ℤ

@@ -1,8 +1,10 @@
 -- What a job promises: its outcome, the pages that it writes, its report, and what stands after it.
 use Rattle.std.specs.Prelude.{◌≡◌, ℕ, ◌≤◌, List, [], ◌∷◌, length, map, Bool, Option, Some, None, Result, Ok, Err, ◌⊎◌, if◌then◌else◌}
+use Rattle.std.specs.declared.vec.Vec.{Vec}
+use Rattle.std.specs.declared.alloc.Global.{Global}
 use Rattle.ts_geometry.specs.declared.measure.Sp.{Sp}
 use Rattle.ts_geometry.specs.declared.fault.MetricFault.{MetricFault}
-use Rattle.ts_outside.specs.Agreement.{Rose}
+use Rattle.ts_outside.specs.Agreement.{Rose, AgreesFault}
 use Rattle.ts_outside.specs.Reading.{Held, bytes_of}
 use Rattle.ts_outside.specs.Gaining.{Gained, GainedPrefix}
 use Rattle.ts_outside.specs.Endings.{with_ending, metric_ending}
@@ -17,7 +19,7 @@ use Rattle.ts_job.specs.declared.stop.Stop.TheVariants as stops
 use Rattle.ts_job.specs.declared.outcome.Outcome.{Outcome}
 use Rattle.ts_job.specs.declared.outcome.Outcome.TheVariants as outcomes
 use Rattle.ts_job.specs.Words.{source_asked}
-use Rattle.ts_job.specs.Meaning.{typeset}
+use Rattle.ts_job.specs.Meaning.{typeset, stop_cause}
 use Rattle.ts_job.specs.Texts.{report_of}
 
 -- ---- the widths that DVI is read with
@@ -33,6 +35,13 @@ width_by size code (Some bytes) = width_in size code (metric_of bytes)
 -- the width of a character of a font, by the metric of its name among the files that are held
 abbrev pub held_widths : List Held → Widths
 held_widths files font code = width_by font.size code (bytes_of files (with_ending metric_ending font.name))
+
+-- ---- a source that is set
+
+-- The bytes are read as the page that the source means; or it stops as it is meant to, but for counted faults and want of memory.
+abbrev pub Sets : List Held → Result (Vec ℕ Global) Stop → Result DviPage Stop → Type 0
+Sets files (Ok dvi) given = (page : DviPage) × (given ≡ Ok page) × (file_pages (held_widths files) dvi.items ≡ Ok (page ∷ []))
+Sets files (Err stop) given = AgreesFault (stop_cause stop) stop given
 
 -- ---- what the words and the files determine
 

@@ -7,6 +7,7 @@ mod load;
 mod outcome;
 mod setting;
 mod stop;
+mod typeset;
 mod words;
 mod writer;
 

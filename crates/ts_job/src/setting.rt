@@ -22,7 +22,7 @@ use ts_geometry::{Measures, Point, Sp};
 use ts_outside::FileName;
 
 // 10 pt in scaled points.
-const TEN_POINTS: u32 = 655_360;
+pub(crate) const TEN_POINTS: u32 = 655_360;
 
 fn measures(metric: &Japanese, cell: Cell) -> Measures
     ensures value { result ≡ measures_of metric.now (class_of metric.now cell) ten_points }
