@@ -49,7 +49,7 @@ IsFirst buffered rest n =
 first_by : (t : Bool) (b : ℕ) (bs rest : List ℕ) (q : ℕ) → q ≡ cond (not t) (1 + before_ten bs) 0 → (q ≡ suc (length bs) → rest ≡ [])
     → ((before_ten bs ≡ length bs → rest ≡ []) → 0 < length bs → IsFirst bs rest (before_ten bs))
     → ((if t then record { bytes = []; ended = true } ∷ pieces (bs ++ rest) else byte_then b (pieces (bs ++ rest)))
-        ≡ record { bytes = take q (b ∷ bs); ended = nat_lt q (suc (length bs)) } ∷ pieces (if t then bs ++ rest else after_ten (bs ++ rest)))
+    ≡ record { bytes = take q (b ∷ bs); ended = nat_lt q (suc (length bs)) } ∷ pieces (if t then bs ++ rest else after_ten (bs ++ rest)))
     × ((if t then bs ++ rest else after_ten (bs ++ rest)) ≡ drop (q + 1) (b ∷ bs) ++ rest)
 first_by true b bs rest q is whole later =
     let yes : nat_lt 0 (suc (length bs)) ≡ true = grind (arith, nat_tests) in
