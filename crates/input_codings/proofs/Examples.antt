@@ -1,9 +1,7 @@
 -- The definitions at worked values.
-use Rattle.std.proofs.Common.{◌≡◌, ℕ, List, [], ◌∷◌, Result, Ok, Err, Option, Some, None, refl, true, false}
+use Rattle.std.proofs.Common.{◌≡◌, List, [], ◌∷◌, Ok, Err, Some, None, refl}
 use Rattle.jis_codes.specs.declared.Char.{Char}
 use Rattle.jis_codes.specs.declared.Char.TheVariants.{One, Ja}
-use Rattle.jis_codes.specs.Kuten.{Kuten}
-use Rattle.input_codings.specs.declared.coding.Coding.{Coding}
 use Rattle.input_codings.specs.declared.coding.Coding.TheVariants.{Jis, Euc, Sjis}
 use Rattle.input_codings.specs.declared.fault.LineFault.TheVariants as faults
 use Rattle.input_codings.specs.Decoding.{decoded}

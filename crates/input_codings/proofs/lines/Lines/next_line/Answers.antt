@@ -1,6 +1,5 @@
-use Rattle.std.proofs.Common.{◌≡◌, ◌∙◌, ◌+◌, ◌++◌, ◌≤◌, ◌<◌, [], ap, sym, refl, arith, length, List, ℕ, Ok, Err, drop}
+use Rattle.std.proofs.Common.{◌<◌, ap, sym, refl, arith, length, Ok, Err}
 use Rattle.std.proofs.lemmas.Result.{err_from_is_err_and}
-use Rattle.input_codings.specs.Reading.{behind, left_to_use, before_ten, KeepsBytes}
 use Rattle.input_codings.proofs.Blocks.{keeps_more}
 use Rattle.input_codings.proofs.Ends.{before-le}
 use Rattle.input_codings.proofs.Next.{next_many, next_long, answers_line, answers_fault, answers_end, some_left}
