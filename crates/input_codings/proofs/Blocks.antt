@@ -1,11 +1,10 @@
 -- The bytes of a block.
-use Rattle.std.proofs.Common.{◌≡◌, ℕ, ◌+◌, ◌-◌, ◌≤◌, List, [], ◌∷◌, ◌++◌, length, take, drop, refl, sym, ap, ◌∙◌, subst, arith, length-drop, length-take, Option, Some, None, IsSome, append_assoc, false}
+use Rattle.std.proofs.Common.{◌≡◌, ℕ, ◌+◌, ◌-◌, ◌≤◌, List, [], ◌++◌, length, take, drop, refl, sym, ap, ◌∙◌, arith, length-take, Option, Some, None, append_assoc, false}
 use Rattle.std.proofs.Math.Seq.{take-add}
 use Rattle.std.proofs.lemmas.List.{drop-take, drop-drop, take-append-drop}
-use Rattle.ts_outside.specs.declared.files.Got.{Got}
 use Rattle.ts_outside.specs.declared.files.Got.TheVariants as got
 use Rattle.ts_outside.specs.Reading.{Gives}
-use Rattle.input_codings.specs.Reading.{Moves, EndsAt, behind, SourceView, KeepsBytes}
+use Rattle.input_codings.specs.Reading.{Moves, behind, SourceView, KeepsBytes}
 
 -- the first bytes of a block are used
 pub skipped : (xs : List ℕ) (s n e : ℕ) → s + n ≤ e → take (e - (s + n)) (drop (s + n) xs) ≡ drop n (take (e - s) (drop s xs))

@@ -1,10 +1,9 @@
 -- The characters of a line, item by item.
-use Rattle.std.proofs.Common.{◌≡◌, ◌≢◌, ℕ, zero, suc, ◌+◌, ◌-◌, ◌≤◌, ◌<◌, List, [], ◌∷◌, ◌++◌, length, take, drop, get_or, refl, sym, ap, ap₂, ◌∙◌, arith, add-zero, Bool, true, false, Option, Some, None, Result, Ok, Err, append_assoc}
+use Rattle.std.proofs.Common.{◌≡◌, ℕ, zero, suc, ◌+◌, ◌-◌, ◌<◌, List, [], ◌∷◌, ◌++◌, length, drop, get_or, refl, sym, ap, ap₂, ◌∙◌, arith, add-zero, true, false, Option, Some, None, Result, Ok, Err, append_assoc}
 use Rattle.std.proofs.Math.ListN.{replicate}
-use Rattle.std.proofs.lemmas.List.{drop_more, drop-drop, append-nil, get_or-drop, replicate_more}
+use Rattle.std.proofs.lemmas.List.{drop_more, drop-drop, append-nil}
 use Rattle.std.proofs.lemmas.Bool.Decides.{nat_tests}
 use Rattle.std.proofs.lemmas.Grind.{common_steps}
-use Rattle.std.specs.Prelude.{◌==◌, if◌then◌else◌}
 use Rattle.jis_codes.specs.declared.Char.{Char}
 use Rattle.jis_codes.specs.declared.Char.TheVariants.{One, Ja}
 use Rattle.input_codings.specs.declared.coding.Coding.{Coding}

@@ -1,15 +1,14 @@
 -- The bytes before the first byte 10, and the first of the pieces.
-use Rattle.std.proofs.Common.{◌≡◌, ◌≢◌, ℕ, zero, suc, ◌+◌, ◌-◌, ◌≤◌, ◌<◌, List, [], ◌∷◌, ◌++◌, length, take, drop, get_or, refl, sym, ap, ◌∙◌, arith, add-one, length-append, length-take, Bool, true, false, nat_lt, nat_eq, cond, not, eqb, lit≤}
-use Rattle.std.proofs.lemmas.List.{take-append-drop, append-nil, drop_more}
+use Rattle.std.proofs.Common.{◌≡◌, ◌≢◌, ℕ, suc, ◌+◌, ◌≤◌, ◌<◌, List, [], ◌∷◌, ◌++◌, length, take, drop, get_or, refl, sym, ap, ◌∙◌, arith, add-one, Bool, true, false, nat_lt, cond, not, eqb, lit≤}
+use Rattle.std.proofs.lemmas.List.{take-append-drop, drop_more}
 use Rattle.std.proofs.lemmas.List.Folds.{prefix_len-append}
 use Rattle.std.proofs.lemmas.Bool.{eq-eqb}
 use Rattle.std.proofs.lemmas.Bool.Decides.{nat_tests}
-use Rattle.std.proofs.lemmas.Grind.{common_steps}
 use Rattle.std.specs.Prelude.{◌==◌, if◌then◌else◌}
 use Prim.Native.Nat.compare
 use lib.Dec.{is_le}
 use Rattle.input_codings.specs.Reading.{before_ten}
-use Rattle.input_codings.specs.Pieces.{Piece, pieces, byte_then, after_ten}
+use Rattle.input_codings.specs.Pieces.{pieces, byte_then, after_ten}
 
 pub before-ten : (xs : List ℕ) (i : ℕ) → i < length xs → get_or xs i 0 ≡ 10 → before_ten (drop i xs) ≡ 0
 before-ten xs i h is = rw (drop_more xs i 0 h, is) refl
@@ -49,7 +48,7 @@ IsFirst buffered rest n =
 first_by : (t : Bool) (b : ℕ) (bs rest : List ℕ) (q : ℕ) → q ≡ cond (not t) (1 + before_ten bs) 0 → (q ≡ suc (length bs) → rest ≡ [])
     → ((before_ten bs ≡ length bs → rest ≡ []) → 0 < length bs → IsFirst bs rest (before_ten bs))
     → ((if t then record { bytes = []; ended = true } ∷ pieces (bs ++ rest) else byte_then b (pieces (bs ++ rest)))
-        ≡ record { bytes = take q (b ∷ bs); ended = nat_lt q (suc (length bs)) } ∷ pieces (if t then bs ++ rest else after_ten (bs ++ rest)))
+    ≡ record { bytes = take q (b ∷ bs); ended = nat_lt q (suc (length bs)) } ∷ pieces (if t then bs ++ rest else after_ten (bs ++ rest)))
     × ((if t then bs ++ rest else after_ten (bs ++ rest)) ≡ drop (q + 1) (b ∷ bs) ++ rest)
 first_by true b bs rest q is whole later =
     let yes : nat_lt 0 (suc (length bs)) ≡ true = grind (arith, nat_tests) in

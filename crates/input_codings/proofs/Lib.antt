@@ -2,3 +2,4 @@ pub mod Blocks
 pub mod Ends
 pub mod Decodes
 pub mod Next
+mod Examples

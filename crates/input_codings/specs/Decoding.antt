@@ -1,6 +1,6 @@
 -- The characters of a line. The escapes are those of ISO-2022-JP, and the numbers of cells those of JIS X 0208, EUC-JP
 -- and Shift_JIS.
-use Rattle.std.specs.Prelude.{ℕ, zero, suc, ◌+◌, ◌*◌, ◌-◌, ◌==◌, ◌&&◌, ◌||◌, nat_lt, nat_eq, Bool, true, false, if◌then◌else◌, List, [], ◌∷◌, ◌++◌, length, take, get_or, Option, Some, None, option_map, Result, Ok, Err}
+use Rattle.std.specs.Prelude.{ℕ, zero, suc, ◌+◌, ◌-◌, ◌==◌, ◌&&◌, ◌||◌, nat_lt, Bool, false, if◌then◌else◌, List, [], ◌∷◌, get_or, Option, Some, None, option_map, Result, Ok, Err}
 use Rattle.jis_codes.specs.declared.Char.{Char}
 use Rattle.jis_codes.specs.declared.Char.TheVariants.{One, Ja}
 use Rattle.jis_codes.specs.Kuten.{Kuten}

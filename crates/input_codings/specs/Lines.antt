@@ -1,5 +1,5 @@
 -- The lines of a file, by number, and the next line of what is left of it.
-use Rattle.std.specs.Prelude.{◌≡◌, ◌≢◌, ◌≤◌, ℕ, zero, suc, ◌+◌, ◌-◌, nat_lt, Bool, if◌then◌else◌, List, [], ◌∷◌, ◌++◌, length, Option, Some, None, Result, Ok, Err, slice_get}
+use Rattle.std.specs.Prelude.{◌≡◌, ◌≢◌, ◌≤◌, ℕ, zero, suc, ◌+◌, ◌-◌, nat_lt, if◌then◌else◌, List, [], ◌∷◌, ◌++◌, length, Option, Some, None, Result, Ok, Err, slice_get}
 use Rattle.ts_outside.specs.Agreement.{Cause, Determined, Counted, Free, ◌>>=◌}
 use Rattle.jis_codes.specs.declared.Char.{Char}
 use Rattle.jis_codes.specs.declared.Char.TheVariants.{One}

@@ -1,5 +1,5 @@
 -- A file that is read into a block, and what is left of it.
-use Rattle.std.specs.Prelude.{◌≡◌, ℕ, ◌+◌, ◌<◌, ◌==◌, ◌++◌, Bool, true, false, List, [], length, take, Option, Some, None, IsSome, Result, Ok, Err}
+use Rattle.std.specs.Prelude.{◌≡◌, ℕ, ◌<◌, ◌==◌, ◌++◌, Bool, true, false, List, [], length, take, Option, Some, None, IsSome}
 use Rattle.std.specs.List.{position_or_len}
 use Rattle.ts_outside.specs.declared.files.Got.{Got}
 use Rattle.ts_outside.specs.declared.files.Got.TheVariants as got

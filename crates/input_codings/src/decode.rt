@@ -120,7 +120,12 @@ fn decode(alloc: Global, coding: Coding, bytes: &[u8]) -> Result<Chars, LineFaul
 
 /// The characters of the line that begins the bytes and has so many of them before its byte 10, or
 /// before the end of the file.
-pub fn line_chars(alloc: Global, coding: Coding, bytes: &[u8], count: usize) -> Result<Chars, LineFault>
+pub fn line_chars(
+    alloc: Global,
+    coding: Coding,
+    bytes: &[u8],
+    count: usize,
+) -> Result<Chars, LineFault>
     requires within { count ≤ length bytes.now }
     requires most { count ≤ 65535 }
     ensures exact { Agrees (λ chars. chars) line_cause result

@@ -16,3 +16,6 @@ pub use fault::{LineFault, OpenFault};
 pub use laws::lines_follow;
 pub use line::Line;
 pub use lines::Lines;
+
+#[cfg(test)]
+mod tests;

@@ -43,7 +43,12 @@ impl Model for Lines {
 
 impl Lines {
     /// Opens a file at its first line. Refused, it leaves open the files that were open.
-    pub fn open<F: Files>(alloc: Global, files: &mut F, name: &FileName, coding: Coding) -> Result<Lines, OpenFault>
+    pub fn open<F: Files>(
+        alloc: Global,
+        files: &mut F,
+        name: &FileName,
+        coding: Coding,
+    ) -> Result<Lines, OpenFault>
         ensures opens { IfSome (F.held files.old) (λ held. Agrees (λ lines. unread lines (F.left files.new lines.file)) open_cause result (opened coding (bytes_of held name.now))) }
         ensures told { IfOk result (λ lines. IsSome (F.held files.old) → IsSome (F.left files.new lines.file)) }
         ensures start { IfOk result (λ lines. lines ≡ record { file = lines.file; coding = coding; line_no = 0; buffered = []; ended = false; failed = false }) }
@@ -91,7 +96,7 @@ impl Lines {
         requires open { F.is_open files.old self.old.file ≡ true }
         requires unfailed { self.old.failed ≡ false }
         ensures exact { IsSome (F.left files.old self.old.file) → Agrees (λ line. (line, unread self.new (F.left files.new self.old.file))) line_cause result (next_line (unread self.old (F.left files.old self.old.file))) }
-        ensures told { OnOk result (IsSome (F.left files.old self.old.file) → IsSome (F.left files.new self.old.file)) }
+        ensures told { IsSome (F.left files.old self.old.file) → IsSome (F.left files.new self.old.file) }
         ensures file { self.new.file ≡ self.old.file }
         ensures coding { self.new.coding ≡ self.old.coding }
         ensures counts { CountsLine result self.old.line_no self.new.line_no }

@@ -1,12 +1,10 @@
-use Rattle.std.proofs.Common.{◌≡◌, ◌∙◌, ◌+◌, ◌++◌, ◌∷◌, [], ap, sym, refl, arith, drop, List, Some, Ok}
-use Rattle.std.proofs.Math.ListN.{replicate}
+use Rattle.std.proofs.Common.{◌≡◌, ◌∙◌, ◌+◌, ap, sym, arith, drop, List, Some, Ok}
 use Rattle.std.proofs.lemmas.List.{at_drop_all}
 use Rattle.jis_codes.specs.declared.Char.{Char}
-use Rattle.jis_codes.specs.declared.Char.TheVariants.{One}
 use Rattle.input_codings.specs.declared.item.Item.TheVariants.{Character, Escape}
 use Rattle.input_codings.specs.Decoding.{decoded_from}
 use Rattle.input_codings.specs.Lines.{closed}
-use Rattle.input_codings.proofs.Decodes.{item_at, item_same, step_bad, step_escape, step_char, behind_all, behind_one, finished}
+use Rattle.input_codings.proofs.Decodes.{item_same, step_bad, step_escape, step_char, behind_all, behind_one, finished}
 use Rattle.input_codings.proofs.decode.decode.Goals as goal
 
 pub returns-in-None-clause-exact : goal.returns-in-None-clause-exact

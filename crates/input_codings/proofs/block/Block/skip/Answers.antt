@@ -1,5 +1,3 @@
-use Rattle.std.proofs.Common.{◌≡◌, ◌+◌, ◌-◌, ◌≤◌, length, take, drop, arith, sym, ap, length-take, length-drop}
-use Rattle.std.proofs.lemmas.Grind.{common_steps}
 use Rattle.input_codings.proofs.Blocks.{skipped, room_left}
 use Rattle.input_codings.proofs.block.Block.skip.Goals as goal
 

@@ -1,6 +1,5 @@
-use Rattle.std.proofs.Common.{◌≡◌, ◌∙◌, ◌+◌, ◌++◌, ◌≤◌, ◌<◌, [], ap, sym, refl, arith, length, List, ℕ, Ok, Err, drop}
+use Rattle.std.proofs.Common.{◌<◌, ap, sym, refl, arith, length, Ok, Err}
 use Rattle.std.proofs.lemmas.Result.{err_from_is_err_and}
-use Rattle.input_codings.specs.Reading.{behind, left_to_use, before_ten, KeepsBytes}
 use Rattle.input_codings.proofs.Blocks.{keeps_more}
 use Rattle.input_codings.proofs.Ends.{before-le}
 use Rattle.input_codings.proofs.Next.{next_many, next_long, answers_line, answers_fault, answers_end, some_left}
@@ -17,7 +16,7 @@ returns-in_err-count-clause-exact g c =
     let keeps = keeps_more c.self.inside.source c.has_more.new.self c.find_end.new.self (g.F.Files.left c.args.files.now) (g.F.Files.left c.has_more.new.files) (g.F.Files.left c.find_end.new.files) c.has_more.ensures.same c.has_more.ensures.bytes c.find_end.ensures.bytes in
     rw (← c.self.view_is, p.1, p.2)
     (λ told. answers_end c.in_err-count.field-0.0 _ c.in_err-count.ensures.quiet
-        (λ long. next_long c.self.inside.coding c.self.inside.line_no _ c.find_end.new.self.buffered _ (sym (keeps told).1) c.if-self-gt-MOST_LINES.false (c.in_err-count.ensures.long (ap Err long))))
+    (λ long. next_long c.self.inside.coding c.self.inside.line_no _ c.find_end.new.self.buffered _ (sym (keeps told).1) c.if-self-gt-MOST_LINES.false (c.in_err-count.ensures.long (ap Err long))))
 
 pub line_chars-requires-clause-within : goal.line_chars-requires-clause-within
 line_chars-requires-clause-within g c =
