@@ -5,3 +5,4 @@ pub mod Forms
 pub mod Loads
 pub mod Boxes
 pub mod Names
+pub mod Sources

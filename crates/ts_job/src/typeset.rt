@@ -1,6 +1,6 @@
 //! From the files to the DVI file of the source's page.
 
-ghost use Rattle.std.specs.Prelude.{◌≡◌, List, Some, IfOk};
+ghost use Rattle.std.specs.Prelude.{◌≡◌, ◌≢◌, List, Some, Err, IfOk};
 ghost use Rattle.ts_outside.specs.Agreement.{Agrees, Counts};
 ghost use Rattle.ts_outside.specs.Reading.{Held, KeepsAll};
 ghost use Rattle.jfm_load.specs.Metrics.{metric_of};
@@ -68,7 +68,8 @@ fn source_form<F: Files>(alloc: Global, files: &mut F, main: &FileName) -> Resul
 
 // The metric that bytes spell, if it is for yoko lines of the one size that is built.
 fn built_metric(alloc: Global, bytes: &[u8]) -> Result<Japanese, Stop>
-    ensures { Agrees (λ metric. metric) stop_cause result (built (metric_of bytes.now)) }
+    ensures exact { Agrees (λ metric. metric) stop_cause result (built (metric_of bytes.now)) }
+    ensures quiet { result ≢ Err Stop.ReadFault }
 {
     match read(alloc, bytes) {
         Err(fault) => Err(stop_of_metric(fault)),

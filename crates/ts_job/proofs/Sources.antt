@@ -1,0 +1,100 @@
+-- Sources and their fonts, as they are read.
+use Rattle.std.proofs.Common.{◌≡◌, ◌≢◌, ℕ, ◌+◌, ◌*◌, ◌≤◌, ◌<◌, ◌/◌, ◌%◌, List, [], ◌∷◌, length, take, Bool, true, false, Option, Some, None, Result, Ok, Err, refl, sym, ap, ◌∙◌, arith, cond, length-take, subst}
+use Rattle.std.specs.Prelude.{nat_le}
+use Rattle.std.proofs.lemmas.List.{take_all}
+use Rattle.std.proofs.lemmas.Bool.Decides.{nat_tests}
+use Rattle.ts_geometry.specs.declared.fault.MetricFault.{MetricFault}
+use Rattle.ts_geometry.specs.declared.measure.Sp.{Sp}
+use Rattle.jis_codes.specs.Kuten.{Kuten, IsKuten}
+use Rattle.ts_outside.specs.Agreement.{◌>>=◌, Counts}
+use Rattle.ts_outside.specs.Reading.{Held, bytes_of}
+use Rattle.ts_outside.specs.Endings.{with_ending, metric_ending}
+use Rattle.jfm_load.specs.Metrics.{Metric, metric_of, jis_of, class_in, measures_of}
+use Rattle.jfm_load.specs.Parts.{is_jis}
+use Rattle.jfm_load.specs.Words.{halfword}
+use Rattle.dvi_code.specs.declared.page.DviPage.{DviPage}
+use Rattle.ts_job.specs.declared.fault.FaultKind.TheVariants.{FileMissing, FormNotBuilt}
+use Rattle.ts_job.specs.declared.stop.Stop.{Stop}
+use Rattle.ts_job.specs.declared.stop.Stop.TheVariants as stops
+use Rattle.ts_job.specs.Form.{Form, form_in, form_of, characters}
+use Rattle.ts_job.specs.Loading.{first_of}
+use Rattle.ts_job.specs.Meaning.{or_fault, source_form, font_metric, built, or_font_fault, or_not_built, is_built, typeset, page_of, font_def, width_of, ten_points, stop_cause}
+use Rattle.ts_job.specs.Promise.{held_widths, width_by, width_in}
+use Rattle.ts_job.specs.Setting.{GivesWidths}
+
+-- A file of the form has at most 139 bytes, so that the first 140 tell whether it is one.
+form_first : (file : List ℕ) → form_in (take 140 file) ≡ form_in file
+unfolding form_in
+form_first file = by_length (nat_le (length file) 139) refl
+  where
+    by_length : (short : Bool) → nat_le (length file) 139 ≡ short → form_in (take 140 file) ≡ form_in file
+    by_length true is = let within : length file ≤ 140 = grind (arith, nat_tests) in ap form_in (take_all 140 file within)
+    by_length false is =
+        let long : nat_le (length (take 140 file)) 139 ≡ false = grind (arith, nat_tests, length-take 140 file) in
+        rw (long, is) refl
+
+-- the form of the main file, by the bytes that were read of it
+source_read : (file : Option (List ℕ)) (bytes : List ℕ) → first_of 140 file ≡ Ok bytes → (or_fault FileMissing 0 file >>= λ b. or_fault FormNotBuilt 0 (form_in b)) ≡ or_fault FormNotBuilt 0 (form_in bytes)
+source_read None bytes read = absurd cc
+source_read (Some file) bytes read =
+    let first : take 140 file ≡ bytes = cc in
+    ap (or_fault FormNotBuilt 0) (sym (form_first file) ∙ ap form_in first)
+
+pub source_form-read : (held : List Held) (main bytes : List ℕ) (form : Option Form) → first_of 140 (bytes_of held main) ≡ Ok bytes → form ≡ form_in bytes → source_form held main ≡ or_fault FormNotBuilt 0 form
+unfolding source_form
+source_form-read held main bytes form read is = source_read (bytes_of held main) bytes read ∙ ap (or_fault FormNotBuilt 0) (sym is)
+
+-- the metric of the font, by the bytes that were read of it
+metric_read : (file : Option (List ℕ)) (bytes : List ℕ) → first_of 262140 file ≡ Ok bytes → 4 * halfword bytes 2 ≤ 262140 → (or_fault FileMissing 1 file >>= λ b. built (metric_of b)) ≡ built (metric_of bytes)
+metric_read None bytes read few = absurd cc
+metric_read (Some file) bytes read few =
+    let first : take 262140 file ≡ bytes = cc in
+    ?
+
+pub font_metric-read : (held : List Held) (form : Form) (bytes : List ℕ) → first_of 262140 (bytes_of held (with_ending metric_ending form.name)) ≡ Ok bytes → 4 * halfword bytes 2 ≤ 262140 → font_metric held form ≡ built (metric_of bytes)
+unfolding font_metric
+font_metric-read held form bytes read few = metric_read (bytes_of held (with_ending metric_ending form.name)) bytes read few
+
+-- What refuses without a read leaves the count.
+pub counts_quiet : {X : Type 0} (result : Result X Stop) (old new : ℕ) → result ≢ Err stops.ReadFault → new ≡ old → Counts stop_cause result old new
+counts_quiet (Ok x) old new quiet same = same
+counts_quiet (Err (stops.Fault kind line)) old new quiet same = same
+counts_quiet (Err stops.ReadFault) old new quiet same = absurd (quiet refl)
+counts_quiet (Err stops.NoMemory) old new quiet same = omega arith
+
+-- ---- widths
+
+jis_byte : (k : Kuten) → IsKuten k → is_jis (jis_of k) ≡ true
+unfolding is_jis
+jis_byte k there =
+    let high : jis_of k / 256 ≡ k.row + 32 = omega (arith, there.3) in
+    let low : jis_of k % 256 ≡ k.cell + 32 = omega (arith, there.3) in
+    let a : nat_le 33 (k.row + 32) ≡ true = grind (arith, nat_tests, there.0) in
+    let b : nat_le (k.row + 32) 126 ≡ true = grind (arith, nat_tests, there.1) in
+    let c : nat_le 33 (k.cell + 32) ≡ true = grind (arith, nat_tests, there.2) in
+    let d : nat_le (k.cell + 32) 126 ≡ true = grind (arith, nat_tests, there.3) in
+    rw (high, low, a, b, c, d) refl
+
+width_if_built : (m metric : Metric) (k : Kuten) (test : Bool) → IsKuten k → cond test (Ok m) (Err (stops.Fault FormNotBuilt 0)) ≡ Ok metric → width_in ten_points (jis_of k) (Ok m) ≡ Some (record { 0 = width_of metric k })
+width_if_built m metric k true there is =
+    let same : m ≡ metric = cc in
+    let jis = jis_byte k there in
+    rw (same, jis) refl
+width_if_built m metric k false there is = absurd cc
+
+width_read : (r : Result Metric MetricFault) (metric : Metric) (k : Kuten) → IsKuten k → built r ≡ Ok metric → width_in ten_points (jis_of k) r ≡ Some (record { 0 = width_of metric k })
+width_read (Err fault) metric k there is = absurd cc
+width_read (Ok m) metric k there is = width_if_built m metric k (is_built m) there is
+
+width_held : (file : Option (List ℕ)) (metric : Metric) (k : Kuten) → IsKuten k → (or_fault FileMissing 1 file >>= λ b. built (metric_of b)) ≡ Ok metric → width_by ten_points (jis_of k) file ≡ Some (record { 0 = width_of metric k })
+width_held None metric k there is = absurd cc
+width_held (Some file) metric k there is = width_read (metric_of file) metric k there is
+
+-- The metric that is found gives the widths with which the DVI file is read.
+pub widths_held : (held : List Held) (form : Form) (metric : Metric) → font_metric held form ≡ Ok metric → GivesWidths (held_widths held) (font_def form metric) metric
+unfolding font_metric
+widths_held held form metric is = λ k there. width_held (bytes_of held (with_ending metric_ending form.name)) metric k there is
+
+pub typeset-is : (held : List Held) (main : List ℕ) (form : Form) (metric : Metric) → source_form held main ≡ Ok form → font_metric held form ≡ Ok metric → typeset held main ≡ Ok (page_of form metric)
+unfolding typeset
+typeset-is held main form metric source font = rw (source, font) refl
