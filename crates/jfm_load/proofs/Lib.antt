@@ -3,3 +3,4 @@ pub mod SoundParts
 pub mod PartsLeft
 pub mod Codes
 pub mod Scaling
+pub mod Prefix

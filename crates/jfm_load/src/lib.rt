@@ -2,6 +2,7 @@
 #![tactic(auto)]
 
 mod japanese;
+pub mod laws;
 mod lengths;
 mod parts;
 mod tables;
