@@ -6,3 +6,5 @@ pub mod Loads
 pub mod Boxes
 pub mod Names
 pub mod Sources
+pub mod FirstLine
+pub mod Asking

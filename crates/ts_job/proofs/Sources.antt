@@ -8,52 +8,40 @@ use Rattle.ts_geometry.specs.declared.measure.Sp.{Sp}
 use Rattle.jis_codes.specs.Kuten.{Kuten, IsKuten}
 use Rattle.ts_outside.specs.Agreement.{◌>>=◌, Counts}
 use Rattle.ts_outside.specs.Reading.{Held, bytes_of}
+use Rattle.ts_outside.specs.declared.name.NameFault.TheVariants.{BadName}
+use Rattle.ts_outside.specs.Names.{is_file_name}
+use Rattle.ts_outside.specs.Naming.{named}
 use Rattle.ts_outside.specs.Endings.{with_ending, metric_ending}
 use Rattle.jfm_load.specs.Metrics.{Metric, metric_of, jis_of, class_in, measures_of}
 use Rattle.jfm_load.specs.Parts.{is_jis}
-use Rattle.jfm_load.specs.Words.{halfword}
 use Rattle.dvi_code.specs.declared.page.DviPage.{DviPage}
 use Rattle.ts_job.specs.declared.fault.FaultKind.TheVariants.{FileMissing, FormNotBuilt}
 use Rattle.ts_job.specs.declared.stop.Stop.{Stop}
 use Rattle.ts_job.specs.declared.stop.Stop.TheVariants as stops
-use Rattle.ts_job.specs.Form.{Form, form_in, form_of, characters}
+use Rattle.ts_job.specs.Words.{Request}
+use Rattle.ts_job.specs.Form.{Form}
 use Rattle.ts_job.specs.Loading.{first_of}
 use Rattle.ts_job.specs.Meaning.{or_fault, source_form, font_metric, built, or_font_fault, or_not_built, is_built, typeset, page_of, font_def, width_of, ten_points, stop_cause}
 use Rattle.ts_job.specs.Promise.{held_widths, width_by, width_in}
 use Rattle.ts_job.specs.Setting.{GivesWidths}
 
--- A file of the form has at most 139 bytes, so that the first 140 tell whether it is one.
-form_first : (file : List ℕ) → form_in (take 140 file) ≡ form_in file
-unfolding form_in
-form_first file = by_length (nat_le (length file) 139) refl
-  where
-    by_length : (short : Bool) → nat_le (length file) 139 ≡ short → form_in (take 140 file) ≡ form_in file
-    by_length true is = let within : length file ≤ 140 = grind (arith, nat_tests) in ap form_in (take_all 140 file within)
-    by_length false is =
-        let long : nat_le (length (take 140 file)) 139 ≡ false = grind (arith, nat_tests, length-take 140 file) in
-        rw (long, is) refl
-
--- the form of the main file, by the bytes that were read of it
-source_read : (file : Option (List ℕ)) (bytes : List ℕ) → first_of 140 file ≡ Ok bytes → (or_fault FileMissing 0 file >>= λ b. or_fault FormNotBuilt 0 (form_in b)) ≡ or_fault FormNotBuilt 0 (form_in bytes)
-source_read None bytes read = absurd cc
-source_read (Some file) bytes read =
-    let first : take 140 file ≡ bytes = cc in
-    ap (or_fault FormNotBuilt 0) (sym (form_first file) ∙ ap form_in first)
-
-pub source_form-read : (held : List Held) (main bytes : List ℕ) (form : Option Form) → first_of 140 (bytes_of held main) ≡ Ok bytes → form ≡ form_in bytes → source_form held main ≡ or_fault FormNotBuilt 0 form
-unfolding source_form
-source_form-read held main bytes form read is = source_read (bytes_of held main) bytes read ∙ ap (or_fault FormNotBuilt 0) (sym is)
-
 -- the metric of the font, by the bytes that were read of it
-metric_read : (file : Option (List ℕ)) (bytes : List ℕ) → first_of 262140 file ≡ Ok bytes → 4 * halfword bytes 2 ≤ 262140 → (or_fault FileMissing 1 file >>= λ b. built (metric_of b)) ≡ built (metric_of bytes)
-metric_read None bytes read few = absurd cc
-metric_read (Some file) bytes read few =
+metric_read : (file : Option (List ℕ)) (bytes : List ℕ) → first_of 262140 file ≡ Ok bytes → ((whole : List ℕ) → take 262140 whole ≡ bytes → metric_of whole ≡ metric_of bytes) → (or_fault FileMissing 1 file >>= λ b. built (metric_of b)) ≡ built (metric_of bytes)
+metric_read None bytes read holds = absurd cc
+metric_read (Some file) bytes read holds =
     let first : take 262140 file ≡ bytes = cc in
-    ?
+    ap built (holds file first)
 
-pub font_metric-read : (held : List Held) (form : Form) (bytes : List ℕ) → first_of 262140 (bytes_of held (with_ending metric_ending form.name)) ≡ Ok bytes → 4 * halfword bytes 2 ≤ 262140 → font_metric held form ≡ built (metric_of bytes)
+pub font_metric-read : (held : List Held) (form : Form) (bytes : List ℕ) → first_of 262140 (bytes_of held (with_ending metric_ending form.name)) ≡ Ok bytes → ((whole : List ℕ) → take 262140 whole ≡ bytes → metric_of whole ≡ metric_of bytes) → font_metric held form ≡ built (metric_of bytes)
 unfolding font_metric
-font_metric-read held form bytes read few = metric_read (bytes_of held (with_ending metric_ending form.name)) bytes read few
+font_metric-read held form bytes read holds = metric_read (bytes_of held (with_ending metric_ending form.name)) bytes read holds
+
+pub named_is : (text name : List ℕ) → named text ≡ Ok name → text ≡ name
+named_is text name is = by_test (is_file_name text) is
+  where
+    by_test : (test : Bool) → cond test (Ok text) (Err BadName) ≡ Ok name → text ≡ name
+    by_test true is = cc
+    by_test false is = absurd cc
 
 -- What refuses without a read leaves the count.
 pub counts_quiet : {X : Type 0} (result : Result X Stop) (old new : ℕ) → result ≢ Err stops.ReadFault → new ≡ old → Counts stop_cause result old new
@@ -95,6 +83,6 @@ pub widths_held : (held : List Held) (form : Form) (metric : Metric) → font_me
 unfolding font_metric
 widths_held held form metric is = λ k there. width_held (bytes_of held (with_ending metric_ending form.name)) metric k there is
 
-pub typeset-is : (held : List Held) (main : List ℕ) (form : Form) (metric : Metric) → source_form held main ≡ Ok form → font_metric held form ≡ Ok metric → typeset held main ≡ Ok (page_of form metric)
+pub typeset-is : (held : List Held) (request : Request) (form : Form) (metric : Metric) → source_form held request ≡ Ok form → font_metric held form ≡ Ok metric → typeset held request ≡ Ok (page_of form metric)
 unfolding typeset
-typeset-is held main form metric source font = rw (source, font) refl
+typeset-is held request form metric source font = rw (source, font) refl

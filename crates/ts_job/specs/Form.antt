@@ -1,6 +1,6 @@
--- The one form of sources that is built so far: \font\j=N \j\shipout\hbox{CELLS}\end with a metric's name N of 1 to 8 lower-case
--- letters and digits, and 1 to 50 Japanese characters in EUC.
-use Rattle.std.specs.Prelude.{ℕ, ◌*◌, ◌+◌, ◌-◌, List, [], ◌∷◌, length, drop, Bool, true, false, Option, Some, None, codes, nat_le, ◌==◌, ◌&&◌, ◌||◌, if◌then◌else◌}
+-- The one form of sources that is built so far: the line \font\j=N \j\shipout\hbox{CELLS}\end with a metric's name N of 1 to 8
+-- lower-case letters and digits, and 1 to 50 Japanese characters.
+use Rattle.std.specs.Prelude.{ℕ, List, [], ◌∷◌, length, drop, Bool, true, false, Option, Some, None, nat_le, ◌==◌, ◌&&◌, ◌||◌, if◌then◌else◌}
 use Rattle.jis_codes.specs.Kuten.{Kuten}
 use Rattle.jis_codes.specs.declared.character.Char.{Char}
 use Rattle.jis_codes.specs.declared.character.Char.TheVariants.{One, Ja}
@@ -8,23 +8,6 @@ use Rattle.jis_codes.specs.declared.character.Char.TheVariants.{One, Ja}
 pub record Form : Type 0 where
   pub name : List ℕ
   pub cells : List Kuten
-
--- a byte of a Japanese character in EUC
-abbrev pub is_high : ℕ → Bool
-is_high b = nat_le 161 b && nat_le b 254
-
--- pairs of such bytes are Japanese characters, and each other byte is one of its own
-abbrev pub characters : List ℕ → List Char
-characters [] = []
-characters (b ∷ []) = One b ∷ []
-characters (b ∷ c ∷ bytes) =
-    if is_high b && is_high c then Ja (record { row = b - 160; cell = c - 160 }) ∷ characters bytes else One b ∷ characters (c ∷ bytes)
-
--- the character at the front, and how many bytes it has
-abbrev pub first_character : List ℕ → Option (Char × ℕ)
-first_character [] = None
-first_character (b ∷ []) = Some (One b, 1)
-first_character (b ∷ c ∷ bytes) = if is_high b && is_high c then Some (Ja (record { row = b - 160; cell = c - 160 }), 2) else Some (One b, 1)
 
 -- what stands behind a text, where the characters begin with it
 abbrev pub behind : List ℕ → List Char → Option (List Char)
@@ -49,10 +32,9 @@ cells_in [] = []
 cells_in (One b ∷ characters) = []
 cells_in (Ja k ∷ characters) = k ∷ cells_in characters
 
--- nothing but the end of the line
+-- nothing but the character that ends a line
 abbrev pub is_line_end : List Char → Bool
-is_line_end [] = true
-is_line_end (One b ∷ []) = b == 10
+is_line_end (One b ∷ []) = b == 13
 is_line_end _ = false
 
 -- `\font\j=`
@@ -79,14 +61,10 @@ abbrev pub form_with : List ℕ → List Kuten → List Char → Option Form
 form_with name cells rest =
     if is_short 8 (length name) && is_short 50 (length cells) && is_line_end rest then Some (record { name = name; cells = cells }) else None
 
--- the form that characters have, if they have it
+-- the form that the characters of a line have, if they have it
 unfoldable pub form_of : List Char → Option Form
 form_of all = do
   named ← behind font_text all
   boxed ← behind box_text (drop (length (name_in named)) named)
   rest ← behind end_text (drop (length (cells_in boxed)) boxed)
   form_with (name_in named) (cells_in boxed) rest
-
--- the form of a file, which has at most 139 bytes
-unfoldable pub form_in : List ℕ → Option Form
-form_in bytes = if nat_le (length bytes) 139 then form_of (characters bytes) else None

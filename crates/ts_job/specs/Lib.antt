@@ -1,6 +1,7 @@
 pub mod Meant
 pub mod Written
 pub mod Words
+pub mod Asked
 pub mod Form
 pub mod FormSeen
 pub mod Meaning

@@ -7,15 +7,22 @@ use Rattle.jis_codes.specs.Kuten.{Kuten}
 use Rattle.ts_outside.specs.Agreement.{◌>>=◌, Cause, Determined, Counted, Free}
 use Rattle.ts_outside.specs.Reading.{Held, bytes_of}
 use Rattle.ts_outside.specs.Endings.{with_ending, metric_ending}
+use Rattle.jis_codes.specs.declared.character.Char.{Char}
+use Rattle.input_codings.specs.declared.fault.LineFault.{LineFault}
+use Rattle.input_codings.specs.declared.fault.LineFault.TheVariants as lines
+use Rattle.input_codings.specs.declared.fault.OpenFault.{OpenFault}
+use Rattle.input_codings.specs.declared.fault.OpenFault.TheVariants as opens
+use Rattle.input_codings.specs.Lines.{line}
 use Rattle.jfm_load.specs.Metrics.{Metric, metric_of, jis_of, class_of, measures_of}
 use Rattle.dvi_code.specs.declared.font.FontDef.{FontDef}
 use Rattle.dvi_code.specs.declared.page.DviPage.{DviPage}
 use Rattle.ts_job.specs.declared.fault.FaultKind.{FaultKind}
-use Rattle.ts_job.specs.declared.fault.FaultKind.TheVariants.{FileMissing, FontBad, FormNotBuilt}
+use Rattle.ts_job.specs.declared.fault.FaultKind.TheVariants.{FileMissing, FontBad, FormNotBuilt, BadByte, LineTooLong, TooManyLines}
 use Rattle.ts_job.specs.declared.stop.Stop.{Stop}
 use Rattle.ts_job.specs.declared.stop.Stop.TheVariants as stops
 use Rattle.ts_job.specs.declared.writer.page.Glyph.{Glyph}
-use Rattle.ts_job.specs.Form.{Form, form_in}
+use Rattle.ts_job.specs.Words.{Request}
+use Rattle.ts_job.specs.Form.{Form, form_of}
 use Rattle.ts_job.specs.Meant.{page_meant}
 
 -- what is there, or a fault at a line
@@ -23,9 +30,36 @@ abbrev pub or_fault : {X : Type 0} → FaultKind → ℕ → Option X → Result
 or_fault kind line None = Err (stops.Fault kind line)
 or_fault kind line (Some x) = Ok x
 
--- the form of the main file
-unfoldable pub source_form : List Held → List ℕ → Result Form Stop
-source_form files main = or_fault FileMissing 0 (bytes_of files main) >>= λ bytes. or_fault FormNotBuilt 0 (form_in bytes)
+-- a fault of the first line
+abbrev pub line_fault : LineFault → Stop
+line_fault lines.TooManyLines = stops.Fault TooManyLines 1
+line_fault lines.LineTooLong = stops.Fault LineTooLong 1
+line_fault (lines.BadByte at) = stops.Fault (BadByte at) 1
+line_fault lines.ReadFault = stops.ReadFault
+line_fault lines.NoMemory = stops.NoMemory
+
+-- the form of a line; a file without a line has none
+abbrev pub form_on : Option (List Char) → Option Form
+form_on None = None
+form_on (Some characters) = form_of characters
+
+abbrev pub or_line_fault : {X : Type 0} → Result X LineFault → Result X Stop
+or_line_fault (Ok x) = Ok x
+or_line_fault (Err fault) = Err (line_fault fault)
+
+-- the first line of the main file
+unfoldable pub first_line : List Held → Request → Result (Option (List Char)) Stop
+first_line files request = or_fault FileMissing 0 (bytes_of files request.main) >>= λ bytes. or_line_fault (line request.coding 1 bytes)
+
+-- the form of the main file: later lines aren't needed
+unfoldable pub source_form : List Held → Request → Result Form Stop
+source_form files request = first_line files request >>= λ line. or_fault FormNotBuilt 0 (form_on line)
+
+-- a file that isn't there
+abbrev pub open_fault : OpenFault → Stop
+open_fault opens.Missing = stops.Fault FileMissing 0
+open_fault opens.ReadFault = stops.ReadFault
+open_fault opens.NoMemory = stops.NoMemory
 
 -- a metric's fault is the fault of its font, but for what isn't built yet
 abbrev pub font_fault : MetricFault → Stop
@@ -88,8 +122,8 @@ abbrev pub page_of : Form → Metric → DviPage
 page_of form metric = page_meant (font_def form metric) (glyphs_from metric (pos 0) (box_height metric form.cells) form.cells)
 
 -- the page that a source ships, or its first fault
-unfoldable pub typeset : List Held → List ℕ → Result DviPage Stop
-typeset files main = source_form files main >>= λ form. font_metric files form >>= λ metric. Ok (page_of form metric)
+unfoldable pub typeset : List Held → Request → Result DviPage Stop
+typeset files request = source_form files request >>= λ form. font_metric files form >>= λ metric. Ok (page_of form metric)
 
 -- why a job stops
 abbrev pub stop_cause : Stop → Cause

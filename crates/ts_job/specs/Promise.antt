@@ -18,7 +18,7 @@ use Rattle.ts_job.specs.declared.stop.Stop.{Stop}
 use Rattle.ts_job.specs.declared.stop.Stop.TheVariants as stops
 use Rattle.ts_job.specs.declared.outcome.Outcome.{Outcome}
 use Rattle.ts_job.specs.declared.outcome.Outcome.TheVariants as outcomes
-use Rattle.ts_job.specs.Words.{source_asked}
+use Rattle.ts_job.specs.Words.{Request, asked}
 use Rattle.ts_job.specs.Meaning.{typeset, stop_cause}
 use Rattle.ts_job.specs.Texts.{report_of}
 
@@ -51,25 +51,25 @@ outcome_of main (Err (stops.Fault kind line)) = outcomes.SourceFault (record { k
 outcome_of main (Err stops.ReadFault) = outcomes.ReadFault
 outcome_of main (Err stops.NoMemory) = outcomes.NoMemory
 
-abbrev pub outcome_asked : List Held → Option (List ℕ) → Outcome
+abbrev pub outcome_asked : List Held → Option Request → Outcome
 outcome_asked files None = outcomes.Usage
-outcome_asked files (Some main) = outcome_of main (typeset files main)
+outcome_asked files (Some request) = outcome_of request.main (typeset files request)
 
 -- the outcome that the source and the words mean
 unfoldable pub outcome_meant : List Held → List (List ℕ) → Outcome
-outcome_meant files words = outcome_asked files (source_asked words)
+outcome_meant files words = outcome_asked files (asked words)
 
 abbrev pub pages_of : Result DviPage Stop → List DviPage
 pages_of (Ok page) = page ∷ []
 pages_of (Err stop) = []
 
-abbrev pub pages_asked : List Held → Option (List ℕ) → List DviPage
+abbrev pub pages_asked : List Held → Option Request → List DviPage
 pages_asked files None = []
-pages_asked files (Some main) = pages_of (typeset files main)
+pages_asked files (Some request) = pages_of (typeset files request)
 
 -- the pages that the source means
 unfoldable pub pages_meant : List Held → List (List ℕ) → List DviPage
-pages_meant files words = pages_asked files (source_asked words)
+pages_meant files words = pages_asked files (asked words)
 
 -- ---- the promises
 
@@ -83,16 +83,16 @@ EndsAs outcomes.SinkFault meant = Unit {0}
 EndsAs outcomes.NoMemory meant = Unit {0}
 
 -- Usage comes exactly where the words are refused.
-abbrev pub RefusesWords : Outcome → Option (List ℕ) → Type 0
-RefusesWords outcomes.Usage asked = asked ≡ None
-RefusesWords outcomes.SinkFault asked = Unit {0}
-RefusesWords outcomes.NoMemory asked = Unit {0}
+abbrev pub RefusesWords : Outcome → Option Request → Type 0
+RefusesWords outcomes.Usage request = request ≡ None
+RefusesWords outcomes.SinkFault request = Unit {0}
+RefusesWords outcomes.NoMemory request = Unit {0}
 RefusesWords outcomes.Done None = ⊥
 RefusesWords (outcomes.SourceFault fault) None = ⊥
 RefusesWords outcomes.ReadFault None = ⊥
-RefusesWords outcomes.Done (Some main) = Unit {0}
-RefusesWords (outcomes.SourceFault fault) (Some main) = Unit {0}
-RefusesWords outcomes.ReadFault (Some main) = Unit {0}
+RefusesWords outcomes.Done (Some request) = Unit {0}
+RefusesWords (outcomes.SourceFault fault) (Some request) = Unit {0}
+RefusesWords outcomes.ReadFault (Some request) = Unit {0}
 
 -- These bytes are the DVI file of these pages, or none where there is no page.
 abbrev pub IsDvi : Widths → List DviPage → List ℕ → Type 0

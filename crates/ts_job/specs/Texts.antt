@@ -22,6 +22,9 @@ abbrev pub kind_text : FaultKind → List ℕ
 kind_text kinds.FileMissing = codes "FileMissing"
 kind_text (kinds.FontBad kind at) = codes "FontBad " ++ bad_text kind ++ codes " " ++ decimal at
 kind_text kinds.FormNotBuilt = codes "FormNotBuilt"
+kind_text (kinds.BadByte at) = codes "BadByte " ++ decimal at
+kind_text kinds.LineTooLong = codes "LineTooLong"
+kind_text kinds.TooManyLines = codes "TooManyLines"
 
 -- FILE:LINE: KIND
 abbrev pub fault_text : Fault → List ℕ

@@ -12,6 +12,12 @@ pub enum FaultKind {
     FontBad(BadKind, u32),
     /// The source, or its font, is of a form that isn't built yet.
     FormNotBuilt,
+    /// A byte begins no character and no escape: its place in the line, from 0.
+    BadByte(u32),
+    /// A line has more than 65,535 bytes.
+    LineTooLong,
+    /// A file has more than 1,000,000 lines.
+    TooManyLines,
 }
 
 /// A place in a source: the innermost open file, and the number of its last line that was needed,

@@ -2,7 +2,7 @@
 
 ghost use Rattle.std.specs.Prelude.{◌≡◌, ◌≤◌, ◌∷◌, [], true, length, option_map, IfOk, IfSome};
 ghost use Rattle.std.specs.List.{list_all};
-ghost use Rattle.ts_job.specs.Form.{characters as characters_of, first_character, behind as what_is_behind, name_in as the_name_in, cells_in as the_cells_in, is_line_end as ends_line, is_name_byte as is_byte_of_name, is_high as is_high_byte, font_text, box_text, end_text, form_of as the_form_of, form_with as the_form_with, form_in as the_form_in};
+ghost use Rattle.ts_job.specs.Form.{behind as what_is_behind, name_in as the_name_in, cells_in as the_cells_in, is_line_end as ends_line, is_name_byte as is_byte_of_name, form_of as the_form_of, form_with as the_form_with};
 ghost use Rattle.ts_job.specs.FormSeen.{seen};
 ghost use Rattle.ts_job.specs.Setting.{IsSound};
 
@@ -14,39 +14,6 @@ use std::alloc::{AllocError, Global};
 pub(crate) struct Form {
     pub(crate) name: Vec<u8>,
     pub(crate) cells: Vec<Cell>,
-}
-
-fn is_high(byte: u8) -> bool
-    ensures { result ≡ is_high_byte byte }
-{
-    0xA1 <= byte && byte <= 0xFE
-}
-
-// The character at the front of bytes, and how many it has.
-fn first(bytes: &[u8]) -> Option<(Char, usize)>
-    ensures { result ≡ first_character bytes.now }
-{
-    match bytes {
-        [] => None,
-        [high, low, ..] if is_high(*high) && is_high(*low) => {
-            let cell = Cell::new(*high - 0xA0, *low - 0xA0)?;
-            Some((Char::Ja(cell), 2))
-        }
-        [byte, ..] => Some((Char::One(*byte), 1)),
-    }
-}
-
-// The characters of EUC text.
-fn characters(alloc: Global, bytes: &[u8]) -> Result<Vec<Char>, AllocError>
-    ensures { IfOk result (λ v. v.items ≡ characters_of bytes.now) }
-{
-    let mut all = Vec::new(alloc);
-    let mut rest = bytes;
-    while let Some((character, n)) = first(rest) {
-        all.push(character)?;
-        rest = &rest[n..];
-    }
-    Ok(all)
 }
 
 // What stands behind a byte, where the characters begin with it.
@@ -113,8 +80,7 @@ fn is_line_end(characters: &[Char]) -> bool
     ensures { result ≡ ends_line characters.now }
 {
     match characters {
-        [] => true,
-        [Char::One(byte)] => *byte == b'\n',
+        [Char::One(byte)] => *byte == b'\r',
         _ => false,
     }
 }
@@ -133,9 +99,9 @@ fn form_with(name: Vec<u8>, cells: Vec<Cell>, rest: &[Char]) -> Option<Form>
     }
 }
 
-// The form that characters have, if they have it.
+/// The form that the characters of a line have, if they have it.
 #[tactic(auto, unfolding(crate::specs::Form::form_of))]
-fn form_of(alloc: Global, all: &[Char]) -> Result<Option<Form>, AllocError>
+pub(crate) fn form_of(alloc: Global, all: &[Char]) -> Result<Option<Form>, AllocError>
     ensures form { IfOk result (λ form. option_map seen form ≡ the_form_of all.now) }
     ensures sound { IfOk result (λ form. IfSome form (λ found. IsSound (seen found))) }
 {
@@ -151,17 +117,4 @@ fn form_of(alloc: Global, all: &[Char]) -> Result<Option<Form>, AllocError>
         return Ok(None);
     };
     Ok(form_with(name, cells, rest))
-}
-
-/// The form of a file, if it has it.
-#[tactic(auto, unfolding(crate::specs::Form::form_in))]
-pub(crate) fn form_in(alloc: Global, bytes: &[u8]) -> Result<Option<Form>, AllocError>
-    ensures form { IfOk result (λ form. option_map seen form ≡ the_form_in bytes.now) }
-    ensures sound { IfOk result (λ form. IfSome form (λ found. IsSound (seen found))) }
-{
-    if bytes.len() > 139 {
-        return Ok(None);
-    }
-    let all = characters(alloc, bytes)?;
-    form_of(alloc, all.as_slice())
 }

@@ -1,27 +1,29 @@
 //! From the files to the DVI file of the source's page.
 
-ghost use Rattle.std.specs.Prelude.{◌≡◌, ◌≢◌, List, Some, Err, IfOk};
+ghost use Rattle.std.specs.Prelude.{◌≡◌, ◌≢◌, ◌≤◌, ℕ, List, length, take, Some, Err, IfOk};
 ghost use Rattle.ts_outside.specs.Agreement.{Agrees, Counts};
 ghost use Rattle.ts_outside.specs.Reading.{Held, KeepsAll};
 ghost use Rattle.jfm_load.specs.Metrics.{metric_of};
+ghost use Rattle.jfm_load.specs.Words.{halfword};
 ghost use Rattle.ts_job.specs.FormSeen.{seen};
 ghost use Rattle.ts_job.specs.Loading.{stop_at};
-ghost use Rattle.ts_job.specs.Meaning.{source_form as the_source_form, font_metric as the_font_metric, font_fault, built, typeset as the_typeset, stop_cause};
+ghost use Rattle.ts_job.specs.Meaning.{source_form as the_source_form, font_metric as the_font_metric, font_fault, built, line_fault, open_fault, or_fault, form_on as the_form_on, first_line as the_first_line, typeset as the_typeset, stop_cause};
+ghost use Rattle.ts_job.specs.Asked.{request};
 ghost use Rattle.ts_job.specs.Promise.{Sets};
 ghost use Rattle.ts_job.specs.Setting.{IsSound};
 
 use crate::fault::FaultKind;
-use crate::form::{Form, form_in};
+use crate::form::{Form, form_of};
 use crate::load::{LoadFault, load};
 use crate::setting::{TEN_POINTS, set};
 use crate::stop::Stop;
-use jfm_load::{Japanese, read};
+use crate::words::Request;
+use input_codings::{Line, LineFault, Lines, OpenFault};
+use byteorder::{BigEndian, ByteOrder};
+use jfm_load::{Japanese, laws, read};
 use std::alloc::Global;
 use ts_geometry::MetricFault;
 use ts_outside::{FileName, Files};
-
-// The form has at most 139 bytes.
-const MOST_OF_SOURCE: usize = 140;
 
 // A metric has at most 65,535 words.
 const MOST_OF_METRIC: usize = 262_140;
@@ -46,23 +48,94 @@ fn stop_of_metric(fault: MetricFault) -> Stop
     }
 }
 
+fn stop_of_open(fault: OpenFault) -> Stop
+    ensures { result ≡ open_fault fault }
+{
+    match fault {
+        OpenFault::Missing => Stop::Fault(FaultKind::FileMissing, 0),
+        OpenFault::ReadFault => Stop::ReadFault,
+        OpenFault::NoMemory => Stop::NoMemory,
+    }
+}
+
+fn stop_of_line(fault: LineFault) -> Stop
+    ensures { result ≡ line_fault fault }
+{
+    match fault {
+        LineFault::TooManyLines => Stop::Fault(FaultKind::TooManyLines, 1),
+        LineFault::LineTooLong => Stop::Fault(FaultKind::LineTooLong, 1),
+        LineFault::BadByte(at) => Stop::Fault(FaultKind::BadByte(at), 1),
+        LineFault::ReadFault => Stop::ReadFault,
+        LineFault::NoMemory => Stop::NoMemory,
+    }
+}
+
+// The form of the first line, if there is one.
+fn form_on(alloc: Global, line: Option<Line>) -> Result<Form, Stop>
+    ensures exact { Agrees seen stop_cause result (or_fault FaultKind.FormNotBuilt 0 (the_form_on line)) }
+    ensures sound { IfOk result (λ form. IsSound (seen form)) }
+    ensures quiet { result ≢ Err Stop.ReadFault }
+{
+    let Some(line) = line else {
+        return Err(Stop::Fault(FaultKind::FormNotBuilt, 0));
+    };
+    match form_of(alloc, line.chars().as_slice()) {
+        Ok(Some(form)) => Ok(form),
+        Ok(None) => Err(Stop::Fault(FaultKind::FormNotBuilt, 0)),
+        Err(_) => Err(Stop::NoMemory),
+    }
+}
+
+// The first line of a file, which is closed again.
+fn first_line<F: Files>(alloc: Global, files: &mut F, asked: &Request) -> Result<Option<Line>, Stop>
+    ensures exact { (held : List Held) → F.held files.old ≡ Some held
+        → Agrees (λ line. line) stop_cause result (the_first_line held (request asked.now)) }
+    ensures kept { KeepsAll (F.is_open files.old) (F.left files.old) (F.is_open files.new) (F.left files.new) }
+    ensures held { F.held files.new ≡ F.held files.old }
+    ensures counted { Counts stop_cause result (F.faults files.old) (F.faults files.new) }
+{
+    let mut lines = match Lines::open(alloc, files, &asked.main, asked.coding) {
+        Ok(lines) => lines,
+        Err(fault) => return Err(stop_of_open(fault)),
+    };
+    let line = lines.next_line(files);
+    lines.close(files);
+    match line {
+        Ok(line) => Ok(line),
+        Err(fault) => Err(stop_of_line(fault)),
+    }
+}
+
 // The form of the main file.
 #[tactic(auto, unfolding(crate::specs::Meaning::source_form))]
-fn source_form<F: Files>(alloc: Global, files: &mut F, main: &FileName) -> Result<Form, Stop>
+fn source_form<F: Files>(alloc: Global, files: &mut F, asked: &Request) -> Result<Form, Stop>
     ensures exact { (held : List Held) → F.held files.old ≡ Some held
-        → Agrees seen stop_cause result (the_source_form held main.now) }
+        → Agrees seen stop_cause result (the_source_form held (request asked.now)) }
     ensures sound { IfOk result (λ form. IsSound (seen form)) }
     ensures kept { KeepsAll (F.is_open files.old) (F.left files.old) (F.is_open files.new) (F.left files.new) }
     ensures held { F.held files.new ≡ F.held files.old }
     ensures counted { Counts stop_cause result (F.faults files.old) (F.faults files.new) }
 {
-    match load(alloc, files, main, MOST_OF_SOURCE) {
-        Err(fault) => Err(stop_of(fault, 0)),
-        Ok(bytes) => match form_in(alloc, &bytes) {
-            Ok(Some(form)) => Ok(form),
-            Ok(None) => Err(Stop::Fault(FaultKind::FormNotBuilt, 0)),
-            Err(_) => Err(Stop::NoMemory),
-        },
+    let line = first_line(alloc, files, asked)?;
+    form_on(alloc, line)
+}
+
+// The number of words that a metric file has by its own count, of at least six bytes.
+#[tactic(auto, unfolding(jfm_load::specs::Words::halfword))]
+fn word_count(bytes: &[u8]) -> u16
+    requires { 6 ≤ length bytes.now }
+    ensures { result ≡ halfword bytes.now 2 }
+{
+    BigEndian::read_u16(&bytes[4..])
+}
+
+// Nothing, beside the fact that so many bytes of a file hold the whole of its metric.
+fn hold_metric(bytes: &[u8])
+    ensures { (file : List ℕ) → take 262140 file ≡ bytes.now → metric_of file ≡ metric_of bytes.now }
+{
+    laws::a_metric_is_in_its_first_words();
+    if 28 <= bytes.len() {
+        let _count = word_count(bytes);
     }
 }
 
@@ -95,20 +168,23 @@ fn font_metric<F: Files>(alloc: Global, files: &mut F, form: &Form) -> Result<Ja
     };
     match load(alloc, files, &name, MOST_OF_METRIC) {
         Err(fault) => Err(stop_of(fault, 1)),
-        Ok(bytes) => built_metric(alloc, &bytes),
+        Ok(bytes) => {
+            hold_metric(&bytes);
+            built_metric(alloc, &bytes)
+        }
     }
 }
 
 /// The DVI file of the page that the main file means.
 #[tactic(auto, unfolding(crate::specs::Meaning::typeset))]
-pub(crate) fn typeset<F: Files>(alloc: Global, files: &mut F, main: &FileName) -> Result<Vec<u8>, Stop>
+pub(crate) fn typeset<F: Files>(alloc: Global, files: &mut F, asked: &Request) -> Result<Vec<u8>, Stop>
     ensures exact { (held : List Held) → F.held files.old ≡ Some held
-        → Sets held result (the_typeset held main.now) }
+        → Sets held result (the_typeset held (request asked.now)) }
     ensures kept { KeepsAll (F.is_open files.old) (F.left files.old) (F.is_open files.new) (F.left files.new) }
     ensures held { F.held files.new ≡ F.held files.old }
     ensures counted { Counts stop_cause result (F.faults files.old) (F.faults files.new) }
 {
-    let form = source_form(alloc, files, main)?;
+    let form = source_form(alloc, files, asked)?;
     let metric = font_metric(alloc, files, &form)?;
     match set(alloc, &form, &metric) {
         Ok(dvi) => Ok(dvi),

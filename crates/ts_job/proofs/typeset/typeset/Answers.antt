@@ -1,3 +1,4 @@
+use Rattle.ts_job.specs.Asked.{request}
 use Rattle.ts_job.specs.FormSeen.{seen}
 use Rattle.ts_job.specs.Meaning.{page_of}
 use Rattle.ts_job.specs.Promise.{held_widths}
@@ -11,4 +12,4 @@ returns-in-Ok-clause-exact g c = λ held told.
     let metric = c.in_ok-metric.metric in
     let source = c.in_ok-form.ensures.exact held told in
     let font = c.in_ok-metric.ensures.exact held (c.in_ok-form.ensures.held ∙ told) in
-    (page_of form metric, typeset-is held c.args.main.now form metric source font, c.in-Ok.ensures (held_widths held) (widths_held held form metric font))
+    (page_of form metric, typeset-is held (request c.args.asked.now) form metric source font, c.in-Ok.ensures (held_widths held) (widths_held held form metric font))
