@@ -1,6 +1,7 @@
 -- The words of a command line, by their number.
+use mathlib.Core.Bool.{false≢true}
 use Rattle.std.proofs.Common.{◌≡◌, ◌≢◌, ℕ, suc, zero, List, [], ◌∷◌, length, map, get_or, Bool, true, false, Option, Some, None, refl, sym, ap, ◌∙◌, arith, cond}
-use Rattle.std.specs.Prelude.{codes, if◌then◌else◌}
+use Rattle.std.specs.Prelude.{codes, not, if◌then◌else◌}
 use Rattle.std.specs.Str.{bytes_eq}
 use Rattle.input_codings.specs.declared.coding.Coding.TheVariants.{Euc}
 use Rattle.ts_job.specs.Words.{Request, asked, asked_in, coding_of}
@@ -32,3 +33,7 @@ module _ {W : Type 0} (text : W → List ℕ) where
   asked_other (a ∷ b ∷ c ∷ d ∷ []) three five = refl
   asked_other (a ∷ b ∷ c ∷ d ∷ e ∷ []) three five = absurd (five refl)
   asked_other (a ∷ b ∷ c ∷ d ∷ e ∷ f ∷ words) three five = refl
+
+pub is_held : {X : Type 0} (held : Bool) {given there : X} (other : X) → false ≡ not held → given ≡ (if held then there else other) → given ≡ there
+is_held true other held is = is
+is_held false other held is = absurd (false≢true held)

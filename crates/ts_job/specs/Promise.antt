@@ -16,6 +16,8 @@ use Rattle.dvi_code.specs.Pages.{Widths, file_pages}
 use Rattle.ts_job.specs.declared.fault.Fault.{Fault}
 use Rattle.ts_job.specs.declared.stop.Stop.{Stop}
 use Rattle.ts_job.specs.declared.stop.Stop.TheVariants as stops
+use Rattle.ts_job.specs.declared.ending.Ending.{Ending}
+use Rattle.ts_job.specs.declared.ending.Ending.TheVariants as endings
 use Rattle.ts_job.specs.declared.outcome.Outcome.{Outcome}
 use Rattle.ts_job.specs.declared.outcome.Outcome.TheVariants as outcomes
 use Rattle.ts_job.specs.Words.{Request, asked}
@@ -71,6 +73,32 @@ pages_asked files (Some request) = pages_of (typeset files request)
 unfoldable pub pages_meant : List Held → List (List ℕ) → List DviPage
 pages_meant files words = pages_asked files (asked words)
 
+-- the text that a job means to report
+unfoldable pub report_meant : List Held → List (List ℕ) → List ℕ
+report_meant files words = report_of (length (pages_meant files words)) (outcome_meant files words)
+
+-- ---- the endings of a source, before anything is put
+
+abbrev pub outcome_ended : Ending → Outcome
+outcome_ended (endings.Page dvi) = outcomes.Done
+outcome_ended (endings.Fault fault) = outcomes.SourceFault fault
+outcome_ended endings.Usage = outcomes.Usage
+outcome_ended endings.ReadFault = outcomes.ReadFault
+outcome_ended endings.NoMemory = outcomes.NoMemory
+
+-- These bytes are the DVI file of these pages, or none where there is no page.
+abbrev pub IsDvi : Widths → List DviPage → List ℕ → Type 0
+IsDvi widths [] bytes = bytes ≡ []
+IsDvi widths (page ∷ pages) bytes = file_pages widths bytes ≡ Ok (page ∷ pages)
+
+-- An ending is the outcome that is meant, with the file of the pages that are meant.
+abbrev pub IsEnding : Widths → List DviPage → Outcome → Ending → Type 0
+IsEnding widths pages meant (endings.Page dvi) = (meant ≡ outcomes.Done) × (length pages ≡ 1) × IsDvi widths pages dvi.items
+IsEnding widths pages meant (endings.Fault fault) = (meant ≡ outcomes.SourceFault fault) × IsDvi widths pages []
+IsEnding widths pages meant endings.Usage = meant ≡ outcomes.Usage
+IsEnding widths pages meant endings.ReadFault = Unit {0}
+IsEnding widths pages meant endings.NoMemory = Unit {0}
+
 -- ---- the promises
 
 -- A job ends as it is meant to, but for counted faults and want of memory.
@@ -94,11 +122,6 @@ RefusesWords outcomes.Done (Some request) = Unit {0}
 RefusesWords (outcomes.SourceFault fault) (Some request) = Unit {0}
 RefusesWords outcomes.ReadFault (Some request) = Unit {0}
 
--- These bytes are the DVI file of these pages, or none where there is no page.
-abbrev pub IsDvi : Widths → List DviPage → List ℕ → Type 0
-IsDvi widths [] bytes = bytes ≡ []
-IsDvi widths (page ∷ pages) bytes = file_pages widths bytes ≡ Ok (page ∷ pages)
-
 -- The sink gains the DVI file of the pages; where a put fails or memory runs out, a prefix of it, or nothing.
 abbrev pub Writes : Outcome → Widths → List DviPage → Option (List ℕ) → Option (List ℕ) → Type 0
 Writes outcomes.Done widths pages old new = (dvi : List ℕ) × IsDvi widths pages dvi × Gained old new dvi
@@ -117,15 +140,14 @@ PutsNothing outcomes.ReadFault old new = new ≡ old
 PutsNothing outcomes.SinkFault old new = Unit {0}
 PutsNothing outcomes.NoMemory old new = Unit {0}
 
--- The report gains the text of the outcome; where a put fails or memory runs out, a prefix of the text of the outcome that is
--- meant; and nothing after a failed read.
-abbrev pub Reports : Outcome → Outcome → ℕ → Option (List ℕ) → Option (List ℕ) → Type 0
-Reports outcomes.Done meant pages old new = Gained old new (report_of pages outcomes.Done)
-Reports (outcomes.SourceFault fault) meant pages old new = Gained old new (report_of pages (outcomes.SourceFault fault))
-Reports outcomes.Usage meant pages old new = Gained old new (report_of pages outcomes.Usage)
-Reports outcomes.ReadFault meant pages old new = new ≡ old
-Reports outcomes.SinkFault meant pages old new = GainedPrefix old new (report_of pages meant)
-Reports outcomes.NoMemory meant pages old new = GainedPrefix old new (report_of pages meant)
+-- The report gains the text; where a put fails or memory runs out, a prefix of it; and nothing after a failed read.
+abbrev pub Reports : Outcome → List ℕ → Option (List ℕ) → Option (List ℕ) → Type 0
+Reports outcomes.Done text old new = Gained old new text
+Reports (outcomes.SourceFault fault) text old new = Gained old new text
+Reports outcomes.Usage text old new = Gained old new text
+Reports outcomes.ReadFault text old new = new ≡ old
+Reports outcomes.SinkFault text old new = GainedPrefix old new text
+Reports outcomes.NoMemory text old new = GainedPrefix old new text
 
 -- The count of the files rises where a read failed, and else only where memory ran out.
 abbrev pub CountsFiles : Outcome → ℕ → ℕ → Type 0

@@ -1,10 +1,13 @@
 //! A job of typesetting: from the words of a command line to the bytes of a DVI file.
 #![tactic(auto)]
 
+mod ending;
 mod fault;
 mod form;
 mod load;
 mod outcome;
+mod report;
+mod run;
 mod setting;
 mod stop;
 mod typeset;
@@ -13,3 +16,4 @@ mod writer;
 
 pub use fault::{Fault, FaultKind, Place};
 pub use outcome::Outcome;
+pub use run::run;

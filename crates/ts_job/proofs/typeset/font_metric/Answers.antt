@@ -15,7 +15,7 @@ returns-clause-exact g c = λ held told.
     let read : first_of 262140 (bytes_of held (with_ending metric_ending form.name)) ≡ Ok c.in-Ok-load.bytes.items = rw name (c.in-Ok-load.ensures.exact held told) in
     let holds = rw c.deref-in-Ok-load.ensures.value at c.hold_metric.ensures in
     let same = font_metric-read held form c.in-Ok-load.bytes.items read holds in
-    rw same (rw c.deref-in-Ok-load.ensures.value at c.built_metric.ensures.exact)
+    rw same (rw c.deref-in-Ok-load-2.ensures.value at c.built_metric.ensures.exact)
 
 pub returns-clause-counted : goal.returns-clause-counted
 returns-clause-counted g c = counts_quiet _ _ _ c.built_metric.ensures.quiet c.in-Ok-load.ensures.counted

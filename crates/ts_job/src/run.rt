@@ -1,0 +1,68 @@
+//! The whole of a job.
+
+ghost use Rattle.std.specs.Prelude.{◌≡◌, Some, List, map, string_bytes, OnOk, OnErr};
+ghost use Rattle.ts_outside.specs.Agreement.{Counts, Rose};
+ghost use Rattle.ts_outside.specs.Gaining.{Gained, GainedPrefix, put_cause};
+ghost use Rattle.ts_outside.specs.Reading.{Held, KeepsAll};
+ghost use Rattle.ts_job.specs.Words.{asked};
+ghost use Rattle.ts_job.specs.Texts.{report_of as the_report_of};
+ghost use Rattle.ts_job.specs.Promise.{held_widths, pages_meant, outcome_meant, report_meant, EndsAs, RefusesWords, Writes, PutsNothing, Reports, CountsFiles, CountsSinks, IsComplete};
+ghost use Rattle.ts_job.specs.declared.outcome.Outcome.TheVariants as outcomes;
+
+use crate::ending::{Ending, ending_of};
+use crate::outcome::Outcome;
+use crate::report::report_of;
+use std::alloc::Global;
+use ts_outside::{Files, PutFault, Sink, put_all};
+
+// Puts the text of an outcome to the report.
+fn tell<R: Sink>(alloc: Global, outcome: &Outcome, report: &mut R) -> Result<(), PutFault>
+    ensures all { OnOk result (Gained (R.held report.old) (R.held report.new) (the_report_of 1 outcome.now)) }
+    ensures part { OnErr result (GainedPrefix (R.held report.old) (R.held report.new) (the_report_of 1 outcome.now)) }
+    ensures counted { Counts put_cause result (R.faults report.old) (R.faults report.new) }
+{
+    let Ok(text) = report_of(alloc, 1, outcome) else {
+        return Err(PutFault::NoMemory);
+    };
+    put_all(report, &text)
+}
+
+/// Typesets what the words of a command line ask: from files, with the DVI file to one sink, and
+/// the text of the outcome to another.
+pub fn run<F: Files, S: Sink, R: Sink>(
+    alloc: Global,
+    words: &[String],
+    files: &mut F,
+    out: &mut S,
+    report: &mut R,
+) -> Outcome
+    ensures outcome { (held : List Held) → F.held files.old ≡ Some held
+        → EndsAs result (outcome_meant held (map string_bytes words.now)) }
+    ensures usage { RefusesWords result (asked (map string_bytes words.now)) }
+    ensures pages { (held : List Held) → F.held files.old ≡ Some held
+        → Writes result (held_widths held) (pages_meant held (map string_bytes words.now)) (S.held out.old) (S.held out.new) }
+    ensures silent { PutsNothing result (S.held out.old) (S.held out.new) }
+    ensures text { (held : List Held) → F.held files.old ≡ Some held
+        → Reports result (report_meant held (map string_bytes words.now)) (R.held report.old) (R.held report.new) }
+    ensures kept { KeepsAll (F.is_open files.old) (F.left files.old) (F.is_open files.new) (F.left files.new) }
+    ensures held { F.held files.new ≡ F.held files.old }
+    ensures files { CountsFiles result (F.faults files.old) (F.faults files.new) }
+    ensures sinks { CountsSinks result (S.faults out.old) (S.faults out.new) (R.faults report.old) (R.faults report.new) }
+{
+    let outcome = match ending_of(alloc, words, files) {
+        Ending::Page(dvi) => match put_all(out, &dvi) {
+            Ok(()) => Outcome::Done,
+            Err(PutFault::Failed) => return Outcome::SinkFault,
+            Err(PutFault::NoMemory) => return Outcome::NoMemory,
+        },
+        Ending::Fault(fault) => Outcome::SourceFault(fault),
+        Ending::Usage => Outcome::Usage,
+        Ending::ReadFault => return Outcome::ReadFault,
+        Ending::NoMemory => return Outcome::NoMemory,
+    };
+    match tell(alloc, &outcome, report) {
+        Ok(()) => outcome,
+        Err(PutFault::Failed) => Outcome::SinkFault,
+        Err(PutFault::NoMemory) => Outcome::NoMemory,
+    }
+}
