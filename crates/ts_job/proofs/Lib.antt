@@ -8,3 +8,4 @@ pub mod Names
 pub mod Sources
 pub mod FirstLine
 pub mod Asking
+pub mod Endings

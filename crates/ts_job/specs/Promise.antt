@@ -74,7 +74,7 @@ unfoldable pub pages_meant : List Held → List (List ℕ) → List DviPage
 pages_meant files words = pages_asked files (asked words)
 
 -- the text that a job means to report
-unfoldable pub report_meant : List Held → List (List ℕ) → List ℕ
+abbrev pub report_meant : List Held → List (List ℕ) → List ℕ
 report_meant files words = report_of (length (pages_meant files words)) (outcome_meant files words)
 
 -- ---- the endings of a source, before anything is put

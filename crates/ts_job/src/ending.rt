@@ -46,6 +46,7 @@ fn ending_asked<F: Files>(alloc: Global, files: &mut F, asked: Request) -> Endin
 }
 
 /// How the words of a command line end.
+#[tactic(auto, unfolding(crate::specs::Promise::pages_meant, crate::specs::Promise::outcome_meant))]
 pub(crate) fn ending_of<F: Files>(alloc: Global, words: &[String], files: &mut F) -> Ending
     ensures exact { (held : List Held) → F.held files.old ≡ Some held
         → IsEnding (held_widths held) (pages_meant held (map string_bytes words.now))

@@ -4,10 +4,11 @@
 mod ending;
 mod fault;
 mod form;
+mod job;
 mod load;
 mod outcome;
 mod report;
-mod run;
+
 mod setting;
 mod stop;
 mod typeset;
@@ -16,4 +17,4 @@ mod writer;
 
 pub use fault::{Fault, FaultKind, Place};
 pub use outcome::Outcome;
-pub use run::run;
+pub use job::run;
