@@ -11,7 +11,9 @@ use Rattle.ts_job.specs.declared.fault.Fault.{Fault}
 use Rattle.ts_job.specs.declared.outcome.Outcome.{Outcome}
 use Rattle.ts_job.specs.declared.outcome.Outcome.TheVariants as outcomes
 use Rattle.ts_job.specs.declared.ending.Ending.TheVariants as endings
-use Rattle.ts_job.specs.Promise.{IsEnding, IsDvi}
+use mathlib.Core.Logic.{inl, inr}
+use Rattle.ts_outside.specs.Agreement.{Rose}
+use Rattle.ts_job.specs.Promise.{IsEnding, EndsAs, CountsFiles, CountsSinks, IsComplete}
 use Rattle.ts_job.specs.Texts.{report_of}
 
 pub text_page : (widths : Widths) (pages : List DviPage) {meant : Outcome} (dvi : Vec ℕ Global) → IsEnding widths pages meant (endings.Page dvi) → report_of 1 outcomes.Done ≡ report_of (length pages) meant
@@ -27,3 +29,13 @@ text_usage widths pages is = rw is refl
 
 pub whole_prefix : (old : Option (List ℕ)) {new : Option (List ℕ)} (bytes : List ℕ) → Gained old new bytes → GainedPrefix old new bytes
 whole_prefix old bytes gained = (length bytes, (omega arith), rw (take-length bytes) gained)
+
+-- a source that ends well is set, where no count rises
+pub complete : (o meant : Outcome) (files files' out out' report report' : ℕ) → meant ≡ outcomes.Done → EndsAs o meant → CountsFiles o files files' → CountsSinks o out out' report report'
+    → (Rose files files' → ⊥) → (Rose out out' → ⊥) → (Rose report report' → ⊥) → IsComplete o
+complete outcomes.Done meant a a' b b' d d' done ends counts sinks f o r = tt
+complete (outcomes.SourceFault fault) meant a a' b b' d d' done ends counts sinks f o r = absurd cc
+complete outcomes.Usage meant a a' b b' d d' done ends counts sinks f o r = absurd cc
+complete outcomes.ReadFault meant a a' b b' d d' done ends counts sinks f o r = absurd (f counts)
+complete outcomes.SinkFault meant a a' b b' d d' done ends counts sinks f o r = elim sinks [ inl s ↦ absurd (o s.0) | inr s ↦ absurd (r s.1) ]
+complete outcomes.NoMemory meant a a' b b' d d' done ends counts sinks f o r = tt

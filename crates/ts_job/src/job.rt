@@ -29,6 +29,7 @@ fn tell<R: Sink>(alloc: Global, outcome: &Outcome, report: &mut R) -> Result<(),
 
 /// Typesets what the words of a command line ask: from files, with the DVI file to one sink, and
 /// the text of the outcome to another.
+#[tactic(auto, using(crate::proofs::Endings::complete))]
 pub fn run<F: Files, S: Sink, R: Sink>(
     alloc: Global,
     words: &[String],
@@ -44,6 +45,12 @@ pub fn run<F: Files, S: Sink, R: Sink>(
     ensures silent { PutsNothing result (S.held out.old) (S.held out.new) }
     ensures text { (held : List Held) → F.held files.old ≡ Some held
         → Reports result (report_meant held (map string_bytes words.now)) (R.held report.old) (R.held report.new) }
+    ensures complete { (held : List Held) → F.held files.old ≡ Some held
+        → outcome_meant held (map string_bytes words.now) ≡ outcomes.Done
+        → (Rose (F.faults files.old) (F.faults files.new) → ⊥)
+        → (Rose (S.faults out.old) (S.faults out.new) → ⊥)
+        → (Rose (R.faults report.old) (R.faults report.new) → ⊥)
+        → IsComplete result }
     ensures kept { KeepsAll (F.is_open files.old) (F.left files.old) (F.is_open files.new) (F.left files.new) }
     ensures held { F.held files.new ≡ F.held files.old }
     ensures files { CountsFiles result (F.faults files.old) (F.faults files.new) }
