@@ -29,7 +29,7 @@ pub greatest_more : (f : Kuten → ℤ) (cells : List Kuten) (i : ℕ) (cell : K
 greatest_more f cells i cell before size now lt is so_far one max =
     let longer : take (i + 1) cells ≡ take i cells ++ cell ∷ [] = take_more cells i cell lt ∙ ap (λ (k : Kuten). take i cells ++ k ∷ []) (sym is) in
     let whole : fold int_max (pos 0) (map f (take (i + 1) cells)) ≡ int_max (fold int_max (pos 0) (map f (take i cells))) (f cell) =
-        ap (λ (ks : List Kuten). fold int_max (pos 0) (map f ks)) longer ∙ ap (λ (zs : List ℤ). fold int_max (pos 0) zs) (map-snoc f (take i cells) cell) ∙ fold-append int_max (pos 0) (map f (take i cells)) (f cell ∷ []) in
+    ap (λ (ks : List Kuten). fold int_max (pos 0) (map f ks)) longer ∙ ap (λ (zs : List ℤ). fold int_max (pos 0) zs) (map-snoc f (take i cells) cell) ∙ fold-append int_max (pos 0) (map f (take i cells)) (f cell ∷ []) in
     max ∙ ap (λ (z : ℤ). int_max z size) so_far ∙ ap (λ (z : ℤ). int_max (fold int_max (pos 0) (map f (take i cells))) z) one ∙ sym whole
 
 pub greatest_low : (before size now : ℤ) → now ≡ int_max before size → pos 0 ≤ℤ before → pos 0 ≤ℤ now

@@ -28,7 +28,7 @@ pub(crate) enum Ending {
 fn ending_asked<F: Files>(alloc: Global, files: &mut F, asked: Request) -> Ending
     ensures exact { (held : List Held) → F.held files.old ≡ Some held
         → IsEnding (held_widths held) (pages_of (the_typeset held (request asked)))
-            (outcome_of asked.main (the_typeset held (request asked))) result }
+        (outcome_of asked.main (the_typeset held (request asked))) result }
     ensures accepted { (given : _) → RefusesWords (outcome_ended result) (Some given) }
     ensures kept { KeepsAll (F.is_open files.old) (F.left files.old) (F.is_open files.new) (F.left files.new) }
     ensures held { F.held files.new ≡ F.held files.old }
@@ -37,7 +37,10 @@ fn ending_asked<F: Files>(alloc: Global, files: &mut F, asked: Request) -> Endin
     match typeset(alloc, files, &asked) {
         Ok(dvi) => Ending::Page(dvi),
         Err(Stop::Fault(kind, line)) => {
-            let place = Place { file: asked.main, line };
+            let place = Place {
+                file: asked.main,
+                line,
+            };
             Ending::Fault(Fault { kind, place })
         }
         Err(Stop::ReadFault) => Ending::ReadFault,
@@ -50,7 +53,7 @@ fn ending_asked<F: Files>(alloc: Global, files: &mut F, asked: Request) -> Endin
 pub(crate) fn ending_of<F: Files>(alloc: Global, words: &[String], files: &mut F) -> Ending
     ensures exact { (held : List Held) → F.held files.old ≡ Some held
         → IsEnding (held_widths held) (pages_meant held (map string_bytes words.now))
-            (outcome_meant held (map string_bytes words.now)) result }
+        (outcome_meant held (map string_bytes words.now)) result }
     ensures usage { RefusesWords (outcome_ended result) (what_is_asked (map string_bytes words.now)) }
     ensures kept { KeepsAll (F.is_open files.old) (F.left files.old) (F.is_open files.new) (F.left files.new) }
     ensures held { F.held files.new ≡ F.held files.old }

@@ -8,13 +8,14 @@ mod job;
 mod load;
 mod outcome;
 mod report;
-
 mod setting;
 mod stop;
+#[cfg(test)]
+mod tests;
 mod typeset;
 mod words;
 mod writer;
 
 pub use fault::{Fault, FaultKind, Place};
-pub use outcome::Outcome;
 pub use job::run;
+pub use outcome::Outcome;

@@ -9,7 +9,8 @@ use std::alloc::{AllocError, Global};
 use std::fmt;
 use ts_geometry::BadKind;
 
-const USAGE: &str = "usage: typeset NAME [--kanji euc|jis|sjis] [--budget N] | list NAME | sample N\n";
+const USAGE: &str =
+    "usage: typeset NAME [--kanji euc|jis|sjis] [--budget N] | list NAME | sample N\n";
 
 // The name of what is wrong with a metric.
 fn bad_name(kind: BadKind) -> &'static str
@@ -59,7 +60,11 @@ fn fault_line(alloc: Global, fault: &Fault) -> Result<Vec<u8>, AllocError>
 
 /// What an outcome reports, where so many pages were shipped.
 #[tactic(auto, unfolding(crate::specs::Texts::report_of))]
-pub(crate) fn report_of(alloc: Global, pages: usize, outcome: &Outcome) -> Result<Vec<u8>, AllocError>
+pub(crate) fn report_of(
+    alloc: Global,
+    pages: usize,
+    outcome: &Outcome,
+) -> Result<Vec<u8>, AllocError>
     ensures { IfOk result (λ text. text.items ≡ the_report_of pages outcome.now) }
 {
     match outcome {

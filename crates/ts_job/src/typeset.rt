@@ -18,8 +18,8 @@ use crate::load::{LoadFault, load};
 use crate::setting::{TEN_POINTS, set};
 use crate::stop::Stop;
 use crate::words::Request;
-use input_codings::{Line, LineFault, Lines, OpenFault};
 use byteorder::{BigEndian, ByteOrder};
+use input_codings::{Line, LineFault, Lines, OpenFault};
 use jfm_load::{Japanese, laws, read};
 use std::alloc::Global;
 use ts_geometry::MetricFault;
@@ -177,7 +177,11 @@ fn font_metric<F: Files>(alloc: Global, files: &mut F, form: &Form) -> Result<Ja
 
 /// The DVI file of the page that the main file means.
 #[tactic(auto, unfolding(crate::specs::Meaning::typeset))]
-pub(crate) fn typeset<F: Files>(alloc: Global, files: &mut F, asked: &Request) -> Result<Vec<u8>, Stop>
+pub(crate) fn typeset<F: Files>(
+    alloc: Global,
+    files: &mut F,
+    asked: &Request,
+) -> Result<Vec<u8>, Stop>
     ensures exact { (held : List Held) → F.held files.old ≡ Some held
         → Sets held result (the_typeset held (request asked.now)) }
     ensures kept { KeepsAll (F.is_open files.old) (F.left files.old) (F.is_open files.new) (F.left files.new) }

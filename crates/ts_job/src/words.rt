@@ -85,7 +85,12 @@ pub(crate) fn asked(alloc: Global, words: &[String]) -> Result<Option<Request>, 
     ensures { IfOk result (λ found. option_map request found ≡ what_is_asked (map string_bytes words.now)) }
 {
     if words.len() == 3 {
-        return asked_in(alloc, Some(Coding::Euc), words[1].as_str(), words[2].as_str());
+        return asked_in(
+            alloc,
+            Some(Coding::Euc),
+            words[1].as_str(),
+            words[2].as_str(),
+        );
     }
     if words.len() != 5 {
         return Ok(None);

@@ -4,7 +4,5 @@ mod number;
 mod opcode;
 mod page;
 mod piece;
-#[cfg(test)]
-mod tests;
 
 pub(crate) use page::{Glyph, dvi_of};
