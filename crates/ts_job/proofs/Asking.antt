@@ -1,10 +1,10 @@
 -- The words of a command line, by their number.
 use mathlib.Core.Bool.{false≢true}
-use Rattle.std.proofs.Common.{◌≡◌, ◌≢◌, ℕ, suc, zero, List, [], ◌∷◌, length, map, get_or, Bool, true, false, Option, Some, None, refl, sym, ap, ◌∙◌, arith, cond}
+use Rattle.std.proofs.Common.{◌≡◌, ◌≢◌, ℕ, List, [], ◌∷◌, length, map, get_or, Bool, true, false, Some, None, refl, arith}
 use Rattle.std.specs.Prelude.{codes, not, if◌then◌else◌}
 use Rattle.std.specs.Str.{bytes_eq}
 use Rattle.input_codings.specs.declared.coding.Coding.TheVariants.{Euc}
-use Rattle.ts_job.specs.Words.{Request, asked, asked_in, coding_of}
+use Rattle.ts_job.specs.Words.{asked, asked_in, coding_of}
 
 -- the texts of words
 module _ {W : Type 0} (text : W → List ℕ) where

@@ -1,5 +1,5 @@
 -- Boxes of characters, one character more.
-use Rattle.std.proofs.Common.{◌≡◌, ℕ, suc, zero, ◌+◌, ◌*◌, ◌≤◌, ◌<◌, List, [], ◌∷◌, ◌++◌, length, drop, take, map, fold, get_or, ℤ, pos, negsuc, neg_ℤ, Some, Result, Ok, ◌+ℤ◌, ◌≤ℤ◌, refl, ap, sym, ◌∙◌, append_assoc, arith}
+use Rattle.std.proofs.Common.{◌≡◌, ℕ, ◌+◌, ◌<◌, List, [], ◌∷◌, ◌++◌, length, drop, take, map, fold, get_or, ℤ, pos, Some, Result, Ok, ◌+ℤ◌, ◌≤ℤ◌, refl, ap, sym, ◌∙◌, append_assoc, arith}
 use Rattle.std.specs.Int.{int_max}
 use Rattle.std.proofs.lemmas.Int.{ints, int_max_is}
 use Rattle.std.proofs.lemmas.List.{take_more}
@@ -7,7 +7,6 @@ use Rattle.std.proofs.lemmas.List.Sums.{fold-append}
 use Rattle.std.proofs.Math.Seq.{drop-cons}
 use Rattle.jis_codes.specs.Kuten.{Kuten}
 use Rattle.jfm_load.specs.Metrics.{Metric, jis_of}
-use Rattle.ts_geometry.specs.declared.measure.Sp.{Sp}
 use Rattle.ts_job.specs.declared.writer.page.Glyph.{Glyph}
 use Rattle.ts_job.specs.Form.{Form}
 use Rattle.ts_job.specs.Meaning.{width_of, glyphs_from, box_height, font_def, page_of}

@@ -1,7 +1,7 @@
 -- The first line of a file, as it is read.
-use Rattle.std.proofs.Common.{◌≡◌, ℕ, ◌+◌, List, [], ◌∷◌, ◌++◌, Option, Some, None, Result, Ok, Err, IsSome, refl, sym, ap, ◌∙◌, subst}
+use Rattle.std.proofs.Common.{◌≡◌, ℕ, List, [], ◌∷◌, Option, Some, None, Result, Ok, Err, refl, sym, ap, ◌∙◌, subst}
 use Rattle.jis_codes.specs.declared.character.Char.{Char}
-use Rattle.ts_outside.specs.Agreement.{◌>>=◌, AgreesFault, Agrees}
+use Rattle.ts_outside.specs.Agreement.{◌>>=◌, AgreesFault}
 use Rattle.ts_outside.specs.Reading.{Held, bytes_of}
 use Rattle.input_codings.specs.declared.coding.Coding.{Coding}
 use Rattle.input_codings.specs.declared.fault.LineFault.{LineFault}
@@ -12,7 +12,6 @@ use Rattle.input_codings.specs.Pieces.{Piece, pieces}
 use Rattle.input_codings.specs.Lines.{Unread, next_line, line, line_of, first_of, characters, past_line, line_cause, open_cause, opened}
 use Rattle.std.specs.Prelude.{slice_get}
 use Rattle.ts_job.specs.declared.fault.FaultKind.TheVariants.{FileMissing}
-use Rattle.ts_job.specs.declared.stop.Stop.{Stop}
 use Rattle.ts_job.specs.Words.{Request}
 use Rattle.ts_job.specs.Meaning.{or_fault, or_line_fault, line_fault, open_fault, stop_cause, first_line}
 

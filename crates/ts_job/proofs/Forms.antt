@@ -1,6 +1,5 @@
 -- The parts of a form.
-use Rattle.std.proofs.Common.{◌≡◌, ℕ, ◌+◌, ◌≤◌, ◌<◌, List, [], ◌∷◌, ◌++◌, length, drop, take, get_or, Bool, true, false, Option, Some, None, refl, ap, sym, ◌∙◌, arith, cond, suc, zero}
-use Rattle.std.specs.Prelude.{option_map}
+use Rattle.std.proofs.Common.{◌≡◌, ℕ, ◌+◌, ◌<◌, List, [], ◌∷◌, length, drop, get_or, Bool, true, false, Option, Some, None, refl, arith, cond, suc, zero}
 use Rattle.jis_codes.specs.declared.character.Char.{Char}
 use Rattle.jis_codes.specs.declared.character.Char.TheVariants.{One, Ja}
 use Rattle.ts_job.specs.Form.{behind}

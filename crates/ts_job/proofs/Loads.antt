@@ -1,5 +1,5 @@
 -- A file that is read on.
-use Rattle.std.proofs.Common.{◌≡◌, ℕ, ◌+◌, ◌≤◌, List, [], ◌∷◌, ◌++◌, length, drop, take, Option, Some, None, refl, ap, subst, sym, ◌∙◌, arith, length-drop, length-take, length-append}
+use Rattle.std.proofs.Common.{◌≡◌, ℕ, ◌+◌, ◌≤◌, List, [], ◌++◌, length, drop, take, Option, Some, ap, subst, sym, ◌∙◌, arith, length-drop, length-take, length-append}
 use Rattle.std.proofs.Math.Seq.{take-add}
 use Rattle.std.proofs.lemmas.List.{take_all, drop-drop}
 use Rattle.ts_outside.specs.declared.files.Got.TheVariants as got

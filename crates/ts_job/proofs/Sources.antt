@@ -1,10 +1,8 @@
 -- Sources and their fonts, as they are read.
-use Rattle.std.proofs.Common.{◌≡◌, ◌≢◌, ℕ, ◌+◌, ◌*◌, ◌≤◌, ◌<◌, ◌/◌, ◌%◌, List, [], ◌∷◌, length, take, Bool, true, false, Option, Some, None, Result, Ok, Err, refl, sym, ap, ◌∙◌, arith, cond, length-take, subst}
+use Rattle.std.proofs.Common.{◌≡◌, ◌≢◌, ℕ, ◌+◌, ◌/◌, ◌%◌, List, take, Bool, true, false, Option, Some, None, Result, Ok, Err, refl, ap, arith, cond}
 use Rattle.std.specs.Prelude.{nat_le}
-use Rattle.std.proofs.lemmas.List.{take_all}
 use Rattle.std.proofs.lemmas.Bool.Decides.{nat_tests}
 use Rattle.ts_geometry.specs.declared.fault.MetricFault.{MetricFault}
-use Rattle.ts_geometry.specs.declared.measure.Sp.{Sp}
 use Rattle.jis_codes.specs.Kuten.{Kuten, IsKuten}
 use Rattle.ts_outside.specs.Agreement.{◌>>=◌, Counts}
 use Rattle.ts_outside.specs.Reading.{Held, bytes_of}
@@ -12,16 +10,15 @@ use Rattle.ts_outside.specs.declared.name.NameFault.TheVariants.{BadName}
 use Rattle.ts_outside.specs.Names.{is_file_name}
 use Rattle.ts_outside.specs.Naming.{named}
 use Rattle.ts_outside.specs.Endings.{with_ending, metric_ending}
-use Rattle.jfm_load.specs.Metrics.{Metric, metric_of, jis_of, class_in, measures_of}
+use Rattle.jfm_load.specs.Metrics.{Metric, metric_of, jis_of}
 use Rattle.jfm_load.specs.Parts.{is_jis}
-use Rattle.dvi_code.specs.declared.page.DviPage.{DviPage}
 use Rattle.ts_job.specs.declared.fault.FaultKind.TheVariants.{FileMissing, FormNotBuilt}
 use Rattle.ts_job.specs.declared.stop.Stop.{Stop}
 use Rattle.ts_job.specs.declared.stop.Stop.TheVariants as stops
 use Rattle.ts_job.specs.Words.{Request}
 use Rattle.ts_job.specs.Form.{Form}
 use Rattle.ts_job.specs.Loading.{first_of}
-use Rattle.ts_job.specs.Meaning.{or_fault, source_form, font_metric, built, or_font_fault, or_not_built, is_built, typeset, page_of, font_def, width_of, ten_points, stop_cause}
+use Rattle.ts_job.specs.Meaning.{or_fault, source_form, font_metric, built, is_built, typeset, page_of, font_def, width_of, ten_points, stop_cause}
 use Rattle.ts_job.specs.Promise.{held_widths, width_by, width_in}
 use Rattle.ts_job.specs.Setting.{GivesWidths}
 

@@ -1,6 +1,6 @@
 -- The one form of sources that is built so far: the line \font\j=N \j\shipout\hbox{CELLS}\end with a metric's name N of 1 to 8
 -- lower-case letters and digits, and 1 to 50 Japanese characters.
-use Rattle.std.specs.Prelude.{ℕ, List, [], ◌∷◌, length, drop, Bool, true, false, Option, Some, None, nat_le, ◌==◌, ◌&&◌, ◌||◌, if◌then◌else◌}
+use Rattle.std.specs.Prelude.{ℕ, List, [], ◌∷◌, length, drop, Bool, false, Option, Some, None, nat_le, ◌==◌, ◌&&◌, ◌||◌, if◌then◌else◌}
 use Rattle.jis_codes.specs.Kuten.{Kuten}
 use Rattle.jis_codes.specs.declared.character.Char.{Char}
 use Rattle.jis_codes.specs.declared.character.Char.TheVariants.{One, Ja}

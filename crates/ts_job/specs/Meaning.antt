@@ -1,5 +1,5 @@
 -- What a source means: the page that it ships, or its first fault.
-use Rattle.std.specs.Prelude.{ℕ, ◌+◌, List, [], ◌∷◌, ℤ, pos, ◌+ℤ◌, Bool, Result, Ok, Err, Option, Some, None, ◌==◌, ◌&&◌, fold, map, not, if◌then◌else◌}
+use Rattle.std.specs.Prelude.{ℕ, List, [], ◌∷◌, ℤ, pos, ◌+ℤ◌, Bool, Result, Ok, Err, Option, Some, None, ◌==◌, ◌&&◌, fold, map, not, if◌then◌else◌}
 use Rattle.std.specs.Int.{int_max}
 use Rattle.ts_geometry.specs.declared.fault.MetricFault.{MetricFault}
 use Rattle.ts_geometry.specs.declared.fault.MetricFault.TheVariants.{Bad, NotBuilt, NoMemory as MetricNoMemory}

@@ -1,5 +1,5 @@
 -- What a job promises: its outcome, the pages that it writes, its report, and what stands after it.
-use Rattle.std.specs.Prelude.{◌≡◌, ℕ, ◌≤◌, List, [], ◌∷◌, length, map, Bool, Option, Some, None, Result, Ok, Err, ◌⊎◌, if◌then◌else◌}
+use Rattle.std.specs.Prelude.{◌≡◌, ℕ, ◌≤◌, List, [], ◌∷◌, length, Option, Some, None, Result, Ok, Err, ◌⊎◌, if◌then◌else◌}
 use Rattle.std.specs.declared.vec.Vec.{Vec}
 use Rattle.std.specs.declared.alloc.Global.{Global}
 use Rattle.ts_geometry.specs.declared.measure.Sp.{Sp}
@@ -10,10 +10,8 @@ use Rattle.ts_outside.specs.Gaining.{Gained, GainedPrefix}
 use Rattle.ts_outside.specs.Endings.{with_ending, metric_ending}
 use Rattle.jfm_load.specs.Metrics.{Metric, metric_of, class_in, measures_of}
 use Rattle.jfm_load.specs.Parts.{is_jis}
-use Rattle.dvi_code.specs.declared.font.FontDef.{FontDef}
 use Rattle.dvi_code.specs.declared.page.DviPage.{DviPage}
 use Rattle.dvi_code.specs.Pages.{Widths, file_pages}
-use Rattle.ts_job.specs.declared.fault.Fault.{Fault}
 use Rattle.ts_job.specs.declared.stop.Stop.{Stop}
 use Rattle.ts_job.specs.declared.stop.Stop.TheVariants as stops
 use Rattle.ts_job.specs.declared.ending.Ending.{Ending}

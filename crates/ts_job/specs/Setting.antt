@@ -1,9 +1,8 @@
 -- A box of characters that is set: what its glyphs have.
-use Rattle.std.specs.Prelude.{◌≡◌, ℕ, ◌≤◌, List, length, Bool, true, ℤ, pos, neg_ℤ, ◌≤ℤ◌, Some}
+use Rattle.std.specs.Prelude.{◌≡◌, ◌≤◌, length, true, ℤ, pos, neg_ℤ, ◌≤ℤ◌, Some}
 use Rattle.std.specs.List.{list_all}
-use Rattle.ts_geometry.specs.declared.measure.Sp.{Sp}
 use Rattle.jis_codes.specs.Kuten.{Kuten, IsKuten}
-use Rattle.jfm_load.specs.Metrics.{Metric, jis_of, class_of, measures_of}
+use Rattle.jfm_load.specs.Metrics.{Metric, jis_of}
 use Rattle.dvi_code.specs.declared.font.FontDef.{FontDef}
 use Rattle.dvi_code.specs.Pages.{Widths}
 use Rattle.ts_job.specs.declared.writer.page.Glyph.{Glyph}

@@ -1,5 +1,5 @@
 -- The words of a command line: any word, typeset, the name of a source, and perhaps --kanji and a coding.
-use Rattle.std.specs.Prelude.{ℕ, List, [], ◌∷◌, length, Bool, true, false, Option, Some, None, codes, nat_le, ◌==◌, ◌&&◌, if◌then◌else◌}
+use Rattle.std.specs.Prelude.{ℕ, List, [], ◌∷◌, length, Bool, false, Option, Some, None, codes, nat_le, ◌==◌, ◌&&◌, if◌then◌else◌}
 use Rattle.std.specs.Str.{bytes_eq}
 use Rattle.ts_outside.specs.Names.{is_file_name}
 use Rattle.ts_outside.specs.Endings.{with_ending, source_ending}

@@ -1,5 +1,5 @@
 use Rattle.ts_job.specs.Promise.{pages_meant, outcome_meant}
-use Rattle.std.proofs.Common.{refl, sym, ap}
+use Rattle.std.proofs.Common.{sym, ap}
 use Rattle.ts_job.specs.Promise.{outcome_asked}
 use Rattle.ts_job.proofs.ending.ending_of.Goals as goal
 

@@ -1,4 +1,4 @@
-use Rattle.std.proofs.Common.{◌≡◌, ◌≤◌, ◌++◌, drop, length}
+use Rattle.std.proofs.Common.{◌≡◌, ◌++◌, drop, length}
 use Rattle.ts_job.specs.Form.{cells_in}
 use Rattle.ts_job.proofs.form.cells_in.Given as goal
 

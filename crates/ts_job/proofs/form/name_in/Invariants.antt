@@ -1,4 +1,4 @@
-use Rattle.std.proofs.Common.{◌≡◌, ◌≤◌, ◌++◌, drop, length, true}
+use Rattle.std.proofs.Common.{◌≡◌, ◌++◌, drop, length, true}
 use Rattle.std.specs.List.{list_all}
 use Rattle.ts_job.specs.Form.{name_in, is_name_byte}
 use Rattle.ts_job.proofs.form.name_in.Given as goal

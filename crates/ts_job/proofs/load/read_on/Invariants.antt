@@ -1,4 +1,4 @@
-use Rattle.std.proofs.Common.{◌≡◌, ◌≢◌, ◌-◌, ◌≤◌, ℕ, List, Some, true, take, drop, length, Bool, ◌++◌}
+use Rattle.std.proofs.Common.{◌≡◌, ◌≢◌, ◌-◌, ◌≤◌, ℕ, List, Some, take, drop, length}
 use Rattle.ts_job.proofs.load.read_on.Given as goal
 
 abbrev pub invariant-loop-file : goal.invariant-loop-file

@@ -1,7 +1,6 @@
 use Rattle.std.proofs.Common.{arith, ap, length, length-append, [], ◌∷◌}
 use Rattle.std.proofs.lemmas.Int.{ints}
 use Rattle.std.proofs.lemmas.List.Elements.{All-push}
-use Rattle.std.proofs.lemmas.Grind.{common_steps}
 use Rattle.ts_geometry.specs.declared.measure.Measures.{Measures}
 use Rattle.ts_job.specs.declared.writer.page.Glyph.{Glyph}
 use Rattle.ts_job.specs.Meant.{FitsGlyph}

@@ -1,4 +1,4 @@
-use Rattle.std.proofs.Common.{Some, refl}
+use Rattle.std.proofs.Common.{refl}
 use Rattle.ts_job.specs.Asked.{request}
 use Rattle.ts_job.proofs.FirstLine.{first_line-missing, first_line-refused, first_line-given}
 use Rattle.ts_job.proofs.typeset.first_line.Goals as goal

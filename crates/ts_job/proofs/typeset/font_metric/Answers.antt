@@ -1,5 +1,4 @@
-use Rattle.std.proofs.Common.{sym, ap, ◌∙◌, List, ℕ, ◌≡◌, Ok}
-use Rattle.ts_outside.specs.Agreement.{Agrees}
+use Rattle.std.proofs.Common.{◌≡◌, Ok}
 use Rattle.ts_outside.specs.Endings.{with_ending, metric_ending}
 use Rattle.ts_outside.specs.Reading.{bytes_of}
 use Rattle.ts_job.specs.FormSeen.{seen}

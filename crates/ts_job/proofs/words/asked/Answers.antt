@@ -1,6 +1,5 @@
-use Rattle.std.proofs.Common.{rules, sym, ◌∙◌}
+use Rattle.std.proofs.Common.{sym}
 use Rattle.std.specs.Prelude.{string_bytes}
-use Rattle.std.proofs.lemmas.Result.{IfOk-weaker}
 use Rattle.ts_job.proofs.Asking.{asked_three, asked_five, asked_other, is_held}
 use Rattle.ts_job.proofs.words.asked.Goals as goal
 
