@@ -9,6 +9,7 @@ use ts_outside::{DiskFiles, StreamSink};
 
 // The statuses where no job was run: memory for the words was refused, or the runtime refused them.
 const NO_MEMORY: u8 = 5;
+
 const NO_WORDS: u8 = 8;
 
 fn words_and_files(rt: &HostRuntime) -> io::Result<(Vec<String>, DiskFiles<HostRuntime>)> {
