@@ -1,0 +1,165 @@
+-- The next token of a file: what stands in the rest of a line, and else in the lines behind it (The TeXbook, chapter 8; pTeX).
+use Rattle.std.specs.Prelude.{ℕ, ◌+◌, ◌==◌, ◌||◌, not, Bool, true, false, if◌then◌else◌, List, [], ◌∷◌, take, drop, Result, Ok, Err, codes}
+use Rattle.std.specs.List.{position_or_len}
+use Rattle.ts_outside.specs.Agreement.{◌>>=◌}
+use Rattle.jis_codes.specs.Kuten.{Kuten}
+use Rattle.jis_codes.specs.declared.character.Char.{Char}
+use Rattle.jis_codes.specs.declared.character.Char.TheVariants.{One, Ja}
+use Rattle.tok_lists.specs.declared.spelling.Spelling.{Spelling}
+use Rattle.tok_lists.specs.declared.token.Token.{Token}
+use Rattle.tok_lists.specs.declared.token.Token.TheVariants as tokens
+use Rattle.tok_lists.specs.declared.fault.NamesFault.{NamesFault}
+use Rattle.tok_lists.specs.declared.fault.NamesFault.TheVariants as names_faults
+use Rattle.tok_lists.specs.Names.{numbered, with_name}
+use Rattle.input_codings.specs.declared.fault.LineFault.{LineFault}
+use Rattle.input_codings.specs.declared.fault.LineFault.TheVariants as line_faults
+use Rattle.input_codings.specs.Pieces.{Piece, pieces}
+use Rattle.input_codings.specs.Lines.{Unread, past_line, characters}
+use Rattle.kcat_eyes.specs.declared.fault.EyeFault.{EyeFault}
+use Rattle.kcat_eyes.specs.declared.fault.EyeFault.TheVariants as faults
+use Rattle.kcat_eyes.specs.declared.seen.Seen.{Seen}
+use Rattle.kcat_eyes.specs.declared.seen.Seen.TheVariants as seen
+use Rattle.kcat_eyes.specs.declared.state.State.{State}
+use Rattle.kcat_eyes.specs.declared.state.State.TheVariants.{NewLine, MidLine, SkipBlanks, Kanji}
+
+-- the category of each code, and the kind of each cell
+pub record Codes : Type 0 where
+  pub cat : ℕ → ℕ
+  pub kcat : Kuten → ℕ
+
+-- what the rest of a line gives first, with the state and the rest behind it: a token that is no name, the spelling of a
+-- name, a character that is invalid; or nothing
+pub data Glance : Type 0 where
+  Gives : Token → State → List Char → Glance
+  Spells : Spelling → State → List Char → Glance
+  Invalid : Glance
+  Nothing : Glance
+
+-- ---- names
+
+-- A control word has letters and Japanese characters of the kinds 16 and 17.
+abbrev pub is_letter : Codes → Char → Bool
+is_letter codes (One c) = codes.cat c == 11
+is_letter codes (Ja k) = (codes.kcat k == 16) || (codes.kcat k == 17)
+
+-- how many letters are at the front
+abbrev pub letters : Codes → List Char → ℕ
+letters codes characters = position_or_len (λ c. not (is_letter codes c)) characters
+
+abbrev pub word : List Char → Spelling
+word characters = record { active = false; chars = characters }
+
+abbrev pub after_symbol : Codes → Char → State
+after_symbol codes (One c) = if codes.cat c == 10 then SkipBlanks else MidLine
+after_symbol codes (Ja k) = Kanji
+
+-- what stands behind an escape
+abbrev pub escaped : Codes → List Char → Glance
+escaped codes [] = Spells (word []) MidLine []
+escaped codes (c ∷ rest) =
+    if is_letter codes c then Spells (word (take (letters codes (c ∷ rest)) (c ∷ rest))) SkipBlanks (drop (letters codes (c ∷ rest)) (c ∷ rest))
+    else Spells (word (c ∷ [])) (after_symbol codes c) rest
+
+-- ---- one line
+
+abbrev pub space : Token
+space = tokens.Char 32 10
+
+-- the end of a line, and what stands behind it on the line is dropped
+abbrev pub line_end : State → Glance
+line_end NewLine = Spells (word (One 112 ∷ One 97 ∷ One 114 ∷ [])) NewLine []
+line_end MidLine = Gives space NewLine []
+line_end SkipBlanks = Nothing
+line_end Kanji = Nothing
+
+abbrev pub blank : State → List Char → Glance → Glance
+blank NewLine rest skipped = skipped
+blank SkipBlanks rest skipped = skipped
+blank MidLine rest skipped = Gives space SkipBlanks rest
+blank Kanji rest skipped = Gives space SkipBlanks rest
+
+-- Braces keep the state behind a Japanese character.
+abbrev pub after_brace : State → State
+after_brace Kanji = Kanji
+after_brace _ = MidLine
+
+-- a character of a category, with what stands behind it, and what that gives where this one is skipped
+abbrev pub met : Codes → State → ℕ → ℕ → List Char → Glance → Glance
+met codes state c cat rest skipped =
+    if cat == 0 then escaped codes rest
+    else (if (cat == 1) || (cat == 2) then Gives (tokens.Char c cat) (after_brace state) rest
+    else (if cat == 5 then line_end state
+    else (if cat == 9 then skipped
+    else (if cat == 10 then blank state rest skipped
+    else (if cat == 13 then Spells (record { active = true; chars = One c ∷ [] }) MidLine rest
+    else (if cat == 14 then Nothing
+    else (if cat == 15 then Invalid
+    else Gives (tokens.Char c cat) MidLine rest)))))))
+
+abbrev pub in_line : Codes → State → List Char → Glance
+in_line codes state [] = Nothing
+in_line codes state (Ja k ∷ rest) = Gives (tokens.Ja k) Kanji rest
+in_line codes state (One c ∷ rest) = met codes state c (codes.cat c) rest (in_line codes state rest)
+
+-- ---- a file
+
+-- what the eyes are about to read: the state, the rest of the present line, the lines behind it, and whether these aren't read
+pub record Sight : Type 0 where
+  pub state : State
+  pub rest : List Char
+  pub lines : Unread
+  pub ends : Bool
+
+-- what is seen, the names with the one that was spelt, and the sight behind it
+pub record Look : Type 0 where
+  pub seen : Seen
+  pub names : List Spelling
+  pub sight : Sight
+
+abbrev pub eye_fault : LineFault → EyeFault
+eye_fault line_faults.TooManyLines = faults.TooManyLines
+eye_fault line_faults.LineTooLong = faults.LineTooLong
+eye_fault (line_faults.BadByte place) = faults.BadByte place
+eye_fault line_faults.ReadFault = faults.ReadFault
+eye_fault line_faults.NoMemory = faults.NoMemory
+
+abbrev pub or_eye_fault : {X : Type 0} → Result X LineFault → Result X EyeFault
+or_eye_fault (Ok x) = Ok x
+or_eye_fault (Err fault) = Err (eye_fault fault)
+
+abbrev pub name_fault : NamesFault → EyeFault
+name_fault names_faults.NamesFull = faults.NamesFull
+name_fault names_faults.NoMemory = faults.NoMemory
+
+abbrev pub or_name_fault : {X : Type 0} → Result X NamesFault → Result X EyeFault
+or_name_fault (Ok x) = Ok x
+or_name_fault (Err fault) = Err (name_fault fault)
+
+abbrev pub named : Spelling → List Spelling → Sight → Result Look EyeFault
+named spelling names sight =
+    or_name_fault (numbered names spelling) >>= λ n. Ok (record { seen = seen.Token (tokens.Name (record { 0 = n })); names = with_name names spelling; sight = sight })
+
+-- what a glance comes to; where it gave nothing, what is seen in the lines behind it
+abbrev pub looked : List Spelling → Unread → Bool → Glance → Result Look EyeFault → Result Look EyeFault
+looked names lines ends (Gives token state rest) behind =
+    Ok (record { seen = seen.Token token; names = names; sight = record { state = state; rest = rest; lines = lines; ends = ends } })
+looked names lines ends (Spells spelling state rest) behind = named spelling names (record { state = state; rest = rest; lines = lines; ends = ends })
+looked names lines ends Invalid behind = Err faults.BadChar
+looked names lines ends Nothing behind = behind
+
+abbrev pub at_end : List Spelling → Unread → Bool → Look
+at_end names lines ends = record { seen = seen.End; names = names; sight = record { state = NewLine; rest = []; lines = lines; ends = ends } }
+
+-- what is seen in lines, of which the first is needed
+abbrev pub in_lines : Codes → List Spelling → Unread → List Piece → Result Look EyeFault
+in_lines codes names lines [] = Ok (at_end names lines false)
+in_lines codes names lines (p ∷ ps) =
+    or_eye_fault (characters lines.coding (lines.line_no + 1) p)
+    >>= λ line. looked names (past_line lines) false (in_line codes NewLine line) (in_lines codes names (past_line lines) ps)
+
+abbrev pub behind_line : Codes → List Spelling → Sight → Result Look EyeFault
+behind_line codes names sight = if sight.ends then Ok (at_end names sight.lines true) else in_lines codes names sight.lines (pieces sight.lines.bytes)
+
+-- the next token, or the end of the file, or the fault
+unfoldable pub next : Codes → List Spelling → Sight → Result Look EyeFault
+next codes names sight = looked names sight.lines sight.ends (in_line codes sight.state sight.rest) (behind_line codes names sight)
