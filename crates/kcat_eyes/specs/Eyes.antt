@@ -1,6 +1,5 @@
 -- The next token of a file: what stands in the rest of a line, and else in the lines behind it (The TeXbook, chapter 8; pTeX).
-use Rattle.std.specs.Prelude.{ℕ, ◌+◌, ◌==◌, ◌||◌, not, Bool, true, false, if◌then◌else◌, List, [], ◌∷◌, take, drop, Result, Ok, Err, codes}
-use Rattle.std.specs.List.{position_or_len}
+use Rattle.std.specs.Prelude.{ℕ, suc, ◌+◌, ◌==◌, ◌||◌, Bool, true, false, if◌then◌else◌, List, [], ◌∷◌, take, drop, Result, Ok, Err, codes}
 use Rattle.ts_outside.specs.Agreement.{◌>>=◌}
 use Rattle.jis_codes.specs.Kuten.{Kuten}
 use Rattle.jis_codes.specs.declared.character.Char.{Char}
@@ -44,7 +43,8 @@ is_letter codes (Ja k) = (codes.kcat k == 16) || (codes.kcat k == 17)
 
 -- how many letters are at the front
 abbrev pub letters : Codes → List Char → ℕ
-letters codes characters = position_or_len (λ c. not (is_letter codes c)) characters
+letters codes [] = 0
+letters codes (c ∷ rest) = if is_letter codes c then suc (letters codes rest) else 0
 
 abbrev pub word : List Char → Spelling
 word characters = record { active = false; chars = characters }
@@ -65,9 +65,13 @@ escaped codes (c ∷ rest) =
 abbrev pub space : Token
 space = tokens.Char 32 10
 
+-- `\par`
+abbrev pub par : Spelling
+par = word (One 112 ∷ One 97 ∷ One 114 ∷ [])
+
 -- the end of a line, and what stands behind it on the line is dropped
 abbrev pub line_end : State → Glance
-line_end NewLine = Spells (word (One 112 ∷ One 97 ∷ One 114 ∷ [])) NewLine []
+line_end NewLine = Spells par NewLine []
 line_end MidLine = Gives space NewLine []
 line_end SkipBlanks = Nothing
 line_end Kanji = Nothing
@@ -84,8 +88,8 @@ after_brace Kanji = Kanji
 after_brace _ = MidLine
 
 -- a character of a category, with what stands behind it, and what that gives where this one is skipped
-abbrev pub met : Codes → State → ℕ → ℕ → List Char → Glance → Glance
-met codes state c cat rest skipped =
+abbrev pub of_category : Codes → State → ℕ → ℕ → List Char → Glance → Glance
+of_category codes state c cat rest skipped =
     if cat == 0 then escaped codes rest
     else (if (cat == 1) || (cat == 2) then Gives (tokens.Char c cat) (after_brace state) rest
     else (if cat == 5 then line_end state
@@ -96,10 +100,13 @@ met codes state c cat rest skipped =
     else (if cat == 15 then Invalid
     else Gives (tokens.Char c cat) MidLine rest)))))))
 
+abbrev pub met : Codes → State → Char → List Char → Glance → Glance
+met codes state (Ja k) rest skipped = Gives (tokens.Ja k) Kanji rest
+met codes state (One c) rest skipped = of_category codes state c (codes.cat c) rest skipped
+
 abbrev pub in_line : Codes → State → List Char → Glance
 in_line codes state [] = Nothing
-in_line codes state (Ja k ∷ rest) = Gives (tokens.Ja k) Kanji rest
-in_line codes state (One c ∷ rest) = met codes state c (codes.cat c) rest (in_line codes state rest)
+in_line codes state (c ∷ rest) = met codes state c rest (in_line codes state rest)
 
 -- ---- a file
 

@@ -2,6 +2,7 @@
 #![tactic(auto)]
 
 mod fault;
+mod find;
 mod seen;
 mod state;
 

@@ -1,0 +1,25 @@
+-- What is found in a line, by the places of its characters.
+use Rattle.std.specs.Prelude.{ℕ, ◌-◌, List, [], ◌∷◌, take, drop, Option, Some, None, false}
+use Rattle.jis_codes.specs.Kuten.{Kuten}
+use Rattle.jis_codes.specs.declared.character.Char.{Char}
+use Rattle.jis_codes.specs.declared.character.Char.TheVariants.{One}
+use Rattle.kcat_eyes.specs.declared.find.Find.{Find}
+use Rattle.kcat_eyes.specs.declared.find.Find.TheVariants as finds
+use Rattle.kcat_eyes.specs.declared.state.State.TheVariants.{NewLine}
+use Rattle.kcat_eyes.specs.Eyes.{Codes, Glance, Gives, Spells, Invalid, Nothing, par}
+
+abbrev pub codes_by : (ℕ → ℕ) → (Kuten → ℕ) → Codes
+codes_by cat kcat = record { cat = cat; kcat = kcat }
+
+-- what a find in a line says
+abbrev pub glance_of : List Char → Find → Glance
+glance_of line (finds.Token token state at) = Gives token state (drop at line)
+glance_of line (finds.Name active from to state) = Spells (record { active = active; chars = take (to - from) (drop from line) }) state (drop to line)
+glance_of line finds.Paragraph = Spells par NewLine []
+glance_of line finds.Invalid = Invalid
+glance_of line finds.Nothing = Nothing
+
+-- a find, or what stands behind where a character is skipped
+abbrev pub or_skipped : List Char → Option Find → Glance → Glance
+or_skipped line None skipped = skipped
+or_skipped line (Some find) skipped = glance_of line find

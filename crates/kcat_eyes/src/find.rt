@@ -1,0 +1,169 @@
+//! What stands next in a line.
+
+ghost use Rattle.std.specs.Prelude.{◌≡◌, ◌≤◌, ◌<◌, ◌+◌, ◌-◌, List, get_or, length, drop};
+ghost use Rattle.jis_codes.specs.declared.character.Char.TheVariants.{One};
+ghost use Rattle.kcat_eyes.specs.Eyes.{Glance, is_letter as is_a_letter, letters as the_letters, after_symbol as the_state_after_symbol, escaped as what_is_escaped, line_end as the_line_end, blank as the_blank, after_brace as the_state_after_brace, of_category as what_is_of_category, met as what_is_met, in_line as what_is_in_line};
+ghost use Rattle.kcat_eyes.specs.Finds.{codes_by, glance_of, or_skipped};
+
+use crate::state::State;
+use jis_codes::Char;
+use tok_lists::{CodeTable, Token};
+
+// The token of a blank.
+const SPACE: Token = Token::Char(b' ', 10);
+
+/// What stands next in a line, with the state behind it. Places are indexes of its characters.
+#[derive(Clone, Copy, Debug, PartialEq, Eq)]
+pub(crate) enum Find {
+    /// A token that is no name, and the place behind it.
+    Token(Token, State, usize),
+    /// A name: whether it is an active character, and the places of its characters and behind them.
+    Name(bool, usize, usize, State),
+    /// The name `\par` of the end of an empty line.
+    Paragraph,
+    /// A character of category 15.
+    Invalid,
+    Nothing,
+}
+
+fn is_letter<C: CodeTable>(codes: &C, character: Char) -> bool
+    ensures { result ≡ is_a_letter (codes_by (C.cat_of codes.now) (C.kcat_of codes.now)) character }
+{
+    match character {
+        Char::One(code) => codes.cat(code) == 11,
+        Char::Ja(cell) => {
+            let kind = codes.kcat(cell);
+            kind == 16 || kind == 17
+        }
+    }
+}
+
+// How many letters are at the front.
+fn letters<C: CodeTable>(codes: &C, rest: &[Char]) -> usize
+    ensures value { result ≡ the_letters (codes_by (C.cat_of codes.now) (C.kcat_of codes.now)) rest.now }
+    ensures within { result ≤ length rest.now }
+{
+    let mut count = 0;
+    for character in rest {
+        if !is_letter(codes, *character) {
+            break;
+        }
+        count += 1;
+    }
+    count
+}
+
+fn after_symbol<C: CodeTable>(codes: &C, character: Char) -> State
+    ensures { result ≡ the_state_after_symbol (codes_by (C.cat_of codes.now) (C.kcat_of codes.now)) character }
+{
+    match character {
+        Char::One(code) if codes.cat(code) == 10 => State::SkipBlanks,
+        Char::One(_) => State::MidLine,
+        Char::Ja(_) => State::Kanji,
+    }
+}
+
+// What stands behind an escape.
+fn escaped<C: CodeTable>(codes: &C, line: &[Char], at: usize) -> Find
+    requires { at ≤ length line.now }
+    ensures { glance_of line.now result ≡ what_is_escaped (codes_by (C.cat_of codes.now) (C.kcat_of codes.now)) (drop at line.now) }
+{
+    let rest = &line[at..];
+    match rest {
+        [] => Find::Name(false, at, at, State::MidLine),
+        [first, ..] if is_letter(codes, *first) => {
+            Find::Name(false, at, at + letters(codes, rest), State::SkipBlanks)
+        }
+        [first, ..] => Find::Name(false, at, at + 1, after_symbol(codes, *first)),
+    }
+}
+
+// The end of a line of so many characters.
+fn line_end(state: State, line: &[Char]) -> Find
+    ensures { glance_of line.now result ≡ the_line_end state }
+{
+    match state {
+        State::NewLine => Find::Paragraph,
+        State::MidLine => Find::Token(SPACE, State::NewLine, line.len()),
+        State::SkipBlanks | State::Kanji => Find::Nothing,
+    }
+}
+
+fn after_brace(state: State) -> State
+    ensures { result ≡ the_state_after_brace state }
+{
+    match state {
+        State::Kanji => State::Kanji,
+        State::NewLine | State::MidLine | State::SkipBlanks => State::MidLine,
+    }
+}
+
+// A blank, with the place behind it, where it isn't skipped.
+fn blank(state: State, at: usize) -> Option<Find>
+    ensures { (line : List Char) (skipped : Glance) → or_skipped line result skipped ≡ the_blank state (drop at line) skipped }
+{
+    match state {
+        State::NewLine | State::SkipBlanks => None,
+        State::MidLine | State::Kanji => Some(Find::Token(SPACE, State::SkipBlanks, at)),
+    }
+}
+
+// A character of one byte, with the place behind it, where it isn't skipped.
+fn of_category<C: CodeTable>(
+    codes: &C,
+    state: State,
+    code: u8,
+    line: &[Char],
+    at: usize,
+) -> Option<Find>
+    requires least { 1 ≤ at }
+    requires most { at ≤ length line.now }
+    requires here { One code ≡ get_or line.now (at - 1) (One code) }
+    ensures { (skipped : Glance) → or_skipped line.now result skipped
+        ≡ what_is_of_category (codes_by (C.cat_of codes.now) (C.kcat_of codes.now)) state code (C.cat_of codes.now code) (drop at line.now) skipped }
+{
+    match codes.cat(code) {
+        0 => Some(escaped(codes, line, at)),
+        cat @ (1 | 2) => Some(Find::Token(Token::Char(code, cat), after_brace(state), at)),
+        5 => Some(line_end(state, line)),
+        9 => None,
+        10 => blank(state, at),
+        13 => Some(Find::Name(true, at - 1, at, State::MidLine)),
+        14 => Some(Find::Nothing),
+        15 => Some(Find::Invalid),
+        cat => Some(Find::Token(Token::Char(code, cat), State::MidLine, at)),
+    }
+}
+
+// A character, with the place behind it, where it isn't skipped.
+fn met<C: CodeTable>(
+    codes: &C,
+    state: State,
+    first: Char,
+    line: &[Char],
+    at: usize,
+) -> Option<Find>
+    requires least { 1 ≤ at }
+    requires most { at ≤ length line.now }
+    requires here { first ≡ get_or line.now (at - 1) first }
+    ensures { (skipped : Glance) → or_skipped line.now result skipped
+        ≡ what_is_met (codes_by (C.cat_of codes.now) (C.kcat_of codes.now)) state first (drop at line.now) skipped }
+{
+    match first {
+        Char::One(code) => of_category(codes, state, code, line, at),
+        Char::Ja(cell) => Some(Find::Token(Token::Ja(cell), State::Kanji, at)),
+    }
+}
+
+/// What stands next in a line from a place on.
+pub(crate) fn in_line<C: CodeTable>(codes: &C, state: State, line: &[Char], at: usize) -> Find
+    requires { at ≤ length line.now }
+    ensures { glance_of line.now result ≡ what_is_in_line (codes_by (C.cat_of codes.now) (C.kcat_of codes.now)) state (drop at line.now) }
+{
+    for place in at..line.len() {
+        if let Some(find) = met(codes, state, line[place], line, place + 1) {
+            return find;
+        }
+    }
+    Find::Nothing
+}
