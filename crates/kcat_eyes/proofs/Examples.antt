@@ -1,8 +1,6 @@
 -- The definition at worked lines, with the codes that hold at the start.
 use Rattle.std.proofs.Common.{◌≡◌, ℕ, zero, suc, false, List, [], ◌∷◌, Result, Ok, Err, refl}
-use Rattle.std.specs.Prelude.{◌==◌, ◌||◌, ◌&&◌, nat_le, if◌then◌else◌}
 use Rattle.ts_outside.specs.Agreement.{◌>>=◌}
-use Rattle.jis_codes.specs.Kuten.{Kuten}
 use Rattle.input_codings.specs.declared.coding.Coding.TheVariants.{Euc}
 use Rattle.tok_lists.specs.declared.spelling.Spelling.{Spelling}
 use Rattle.tok_lists.specs.declared.token.Token.TheVariants as tokens
@@ -12,15 +10,7 @@ use Rattle.kcat_eyes.specs.declared.seen.Seen.{Seen}
 use Rattle.kcat_eyes.specs.declared.seen.Seen.TheVariants as seen
 use Rattle.kcat_eyes.specs.declared.state.State.TheVariants.{NewLine}
 use Rattle.kcat_eyes.specs.Eyes.{Codes, Sight, next}
-
-abbrev start_cat : ℕ → ℕ
-start_cat c =
-    if c == 92 then 0 else (if c == 123 then 1 else (if c == 125 then 2 else (if c == 13 then 5 else (if c == 0 then 9
-    else (if c == 32 then 10 else (if c == 126 then 13 else (if c == 37 then 14 else (if c == 127 then 15
-    else (if (nat_le 97 c && nat_le c 122) || (nat_le 65 c && nat_le c 90) then 11 else 12)))))))))
-
-abbrev start_kcat : Kuten → ℕ
-start_kcat k = if nat_le 3 k.row && nat_le k.row 6 then 17 else (if nat_le 16 k.row && nat_le k.row 84 then 16 else 18)
+use Rattle.kcat_eyes.specs.StartCodes.{start_cat, start_kcat}
 
 start : Codes
 start = record { cat = start_cat; kcat = start_kcat }

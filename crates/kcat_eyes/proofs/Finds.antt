@@ -1,10 +1,10 @@
 -- What is found at a place of a line.
-use Rattle.std.proofs.Common.{◌≡◌, ℕ, ◌+◌, ◌-◌, ◌<◌, ◌≤◌, List, [], ◌∷◌, length, take, drop, get_or, true, false, refl, sym, ap, ◌∙◌, arith}
+use Rattle.std.proofs.Common.{◌≡◌, ℕ, ◌+◌, ◌-◌, ◌<◌, ◌≤◌, List, [], ◌∷◌, length, take, drop, get_or, false, refl, sym, ap, ◌∙◌, arith}
 use Rattle.std.proofs.Common.{length-drop}
 use Rattle.std.proofs.lemmas.List.{drop_more, take_all, get_or-drop}
 use Rattle.jis_codes.specs.declared.character.Char.{Char}
 use Rattle.kcat_eyes.specs.declared.state.State.{State}
-use Rattle.kcat_eyes.specs.Eyes.{Codes, Glance, Spells, is_letter, after_symbol, escaped, met, in_line}
+use Rattle.kcat_eyes.specs.Eyes.{Codes, Spells, is_letter, after_symbol, escaped, met, in_line}
 
 step : (line : List Char) (at : ℕ) (first : Char) → at < length line → first ≡ get_or line at first → drop at line ≡ first ∷ drop (at + 1) line
 step line at first lt is = drop_more line at first lt ∙ ap (λ (f : Char). f ∷ drop (at + 1) line) (sym is)

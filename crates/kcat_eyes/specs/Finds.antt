@@ -1,8 +1,7 @@
 -- What is found in a line, by the places of its characters.
-use Rattle.std.specs.Prelude.{ℕ, ◌-◌, List, [], ◌∷◌, take, drop, Option, Some, None, false}
+use Rattle.std.specs.Prelude.{ℕ, ◌-◌, List, [], take, drop, Option, Some, None}
 use Rattle.jis_codes.specs.Kuten.{Kuten}
 use Rattle.jis_codes.specs.declared.character.Char.{Char}
-use Rattle.jis_codes.specs.declared.character.Char.TheVariants.{One}
 use Rattle.kcat_eyes.specs.declared.find.Find.{Find}
 use Rattle.kcat_eyes.specs.declared.find.Find.TheVariants as finds
 use Rattle.kcat_eyes.specs.declared.state.State.TheVariants.{NewLine}

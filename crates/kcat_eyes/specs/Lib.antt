@@ -1,2 +1,3 @@
 pub mod Eyes
 pub mod Finds
+pub mod StartCodes

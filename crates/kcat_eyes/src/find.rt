@@ -136,13 +136,7 @@ fn of_category<C: CodeTable>(
 }
 
 // A character, with the place behind it, where it isn't skipped.
-fn met<C: CodeTable>(
-    codes: &C,
-    state: State,
-    first: Char,
-    line: &[Char],
-    at: usize,
-) -> Option<Find>
+fn met<C: CodeTable>(codes: &C, state: State, first: Char, line: &[Char], at: usize) -> Option<Find>
     requires least { 1 ≤ at }
     requires most { at ≤ length line.now }
     requires here { first ≡ get_or line.now (at - 1) first }

@@ -8,3 +8,6 @@ mod state;
 
 pub use fault::EyeFault;
 pub use seen::Seen;
+
+#[cfg(test)]
+mod tests;

@@ -1,4 +1,4 @@
-use Rattle.std.proofs.Common.{◌≡◌, ◌+◌, drop, length}
+use Rattle.std.proofs.Common.{◌≡◌, ◌+◌, drop}
 use Rattle.kcat_eyes.specs.Eyes.{letters}
 use Rattle.kcat_eyes.specs.Finds.{codes_by}
 use Rattle.kcat_eyes.proofs.find.letters.Given as goal

@@ -1,0 +1,96 @@
+//! Lines with the codes that hold at the start.
+
+ghost use Rattle.kcat_eyes.specs.StartCodes.{start_cat, start_kcat};
+
+use crate::find::{Find, in_line};
+use crate::state::State;
+use jis_codes::{Cell, Char};
+use std::test::Fail;
+use tok_lists::{CodeTable, Token};
+
+struct Start;
+
+impl CodeTable for Start {
+    ghost cat_of = { λ _ code. start_cat code };
+
+    ghost kcat_of = { λ _ cell. start_kcat cell };
+
+    fn cat(&self, code: u8) -> u8 {
+        match code {
+            b'\\' => 0,
+            b'{' => 1,
+            b'}' => 2,
+            b'\r' => 5,
+            b' ' => 10,
+            b'a'..=b'z' => 11,
+            b'~' => 13,
+            b'%' => 14,
+            127 => 15,
+            _ => 12,
+        }
+    }
+
+    fn kcat(&self, cell: Cell) -> u8 {
+        match cell.row() {
+            3..=6 => 17,
+            16..=84 => 16,
+            _ => 18,
+        }
+    }
+}
+
+#[test]
+fn lines(rt: HostRuntime) -> Result<(), Fail> {
+    let kana = Char::Ja(Cell::new(4, 2).ok_or("no cell")?);
+    let kanji = Char::Ja(Cell::new(20, 33).ok_or("no cell")?);
+    let space = Token::Char(b' ', 10);
+    let table: [(State, &[Char], Find); 11] = [
+        (
+            State::NewLine,
+            &[Char::One(b' '), Char::One(b'\r')],
+            Find::Paragraph,
+        ),
+        (
+            State::MidLine,
+            &[Char::One(b'\r')],
+            Find::Token(space, State::NewLine, 1),
+        ),
+        (State::Kanji, &[Char::One(b'\r')], Find::Nothing),
+        (
+            State::Kanji,
+            &[Char::One(b' '), kana],
+            Find::Token(space, State::SkipBlanks, 1),
+        ),
+        (
+            State::Kanji,
+            &[Char::One(b'{')],
+            Find::Token(Token::Char(b'{', 1), State::Kanji, 1),
+        ),
+        (
+            State::SkipBlanks,
+            &[Char::One(b' '), Char::One(b'b')],
+            Find::Token(Token::Char(b'b', 11), State::MidLine, 2),
+        ),
+        (
+            State::NewLine,
+            &[Char::One(b'\\'), kanji, Char::One(b'a'), Char::One(b' ')],
+            Find::Name(false, 1, 3, State::SkipBlanks),
+        ),
+        (
+            State::MidLine,
+            &[Char::One(b'\\'), Char::One(b' '), Char::One(b' ')],
+            Find::Name(false, 1, 2, State::SkipBlanks),
+        ),
+        (
+            State::MidLine,
+            &[Char::One(b'~')],
+            Find::Name(true, 0, 1, State::MidLine),
+        ),
+        (State::MidLine, &[Char::One(b'%'), kana], Find::Nothing),
+        (State::MidLine, &[Char::One(127)], Find::Invalid),
+    ];
+    for (state, line, find) in table {
+        assert_eq!(rt; in_line(&Start, state, line, 0), find);
+    }
+    Ok(())
+}
