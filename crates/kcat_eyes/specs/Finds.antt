@@ -1,5 +1,5 @@
 -- What is found in a line, by the places of its characters.
-use Rattle.std.specs.Prelude.{ℕ, ◌-◌, List, [], take, drop, Option, Some, None}
+use Rattle.std.specs.Prelude.{ℕ, ◌-◌, ◌≤◌, List, [], take, drop, Option, Some, None}
 use Rattle.jis_codes.specs.Kuten.{Kuten}
 use Rattle.jis_codes.specs.declared.character.Char.{Char}
 use Rattle.kcat_eyes.specs.declared.find.Find.{Find}
@@ -22,3 +22,11 @@ glance_of line finds.Nothing = Nothing
 abbrev pub or_skipped : List Char → Option Find → Glance → Glance
 or_skipped line None skipped = skipped
 or_skipped line (Some find) skipped = glance_of line find
+
+-- The places of a find are within a line of so many characters.
+abbrev pub IsWithin : ℕ → Find → Type 0
+IsWithin n (finds.Token token state at) = at ≤ n
+IsWithin n (finds.Name active from to state) = (from ≤ to) × (to ≤ n)
+IsWithin n finds.Paragraph = Unit {0}
+IsWithin n finds.Invalid = Unit {0}
+IsWithin n finds.Nothing = Unit {0}

@@ -1,3 +1,4 @@
 pub mod Eyes
 pub mod Finds
+pub mod Sights
 pub mod StartCodes

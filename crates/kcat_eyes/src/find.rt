@@ -1,9 +1,9 @@
 //! What stands next in a line.
 
-ghost use Rattle.std.specs.Prelude.{◌≡◌, ◌≤◌, ◌<◌, ◌+◌, ◌-◌, List, get_or, length, drop};
+ghost use Rattle.std.specs.Prelude.{◌≡◌, ◌≤◌, ◌<◌, ◌+◌, ◌-◌, List, ℕ, IfSome, get_or, length, drop};
 ghost use Rattle.jis_codes.specs.declared.character.Char.TheVariants.{One};
 ghost use Rattle.kcat_eyes.specs.Eyes.{Glance, is_letter as is_a_letter, letters as the_letters, after_symbol as the_state_after_symbol, escaped as what_is_escaped, line_end as the_line_end, blank as the_blank, after_brace as the_state_after_brace, of_category as what_is_of_category, met as what_is_met, in_line as what_is_in_line};
-ghost use Rattle.kcat_eyes.specs.Finds.{codes_by, glance_of, or_skipped};
+ghost use Rattle.kcat_eyes.specs.Finds.{codes_by, glance_of, or_skipped, IsWithin};
 
 use crate::state::State;
 use jis_codes::Char;
@@ -66,7 +66,8 @@ fn after_symbol<C: CodeTable>(codes: &C, character: Char) -> State
 // What stands behind an escape.
 fn escaped<C: CodeTable>(codes: &C, line: &[Char], at: usize) -> Find
     requires { at ≤ length line.now }
-    ensures { glance_of line.now result ≡ what_is_escaped (codes_by (C.cat_of codes.now) (C.kcat_of codes.now)) (drop at line.now) }
+    ensures value { glance_of line.now result ≡ what_is_escaped (codes_by (C.cat_of codes.now) (C.kcat_of codes.now)) (drop at line.now) }
+    ensures places { IsWithin (length line.now) result }
 {
     let rest = &line[at..];
     match rest {
@@ -80,7 +81,8 @@ fn escaped<C: CodeTable>(codes: &C, line: &[Char], at: usize) -> Find
 
 // The end of a line of so many characters.
 fn line_end(state: State, line: &[Char]) -> Find
-    ensures { glance_of line.now result ≡ the_line_end state }
+    ensures value { glance_of line.now result ≡ the_line_end state }
+    ensures places { IsWithin (length line.now) result }
 {
     match state {
         State::NewLine => Find::Paragraph,
@@ -100,7 +102,8 @@ fn after_brace(state: State) -> State
 
 // A blank, with the place behind it, where it isn't skipped.
 fn blank(state: State, at: usize) -> Option<Find>
-    ensures { (line : List Char) (skipped : Glance) → or_skipped line result skipped ≡ the_blank state (drop at line) skipped }
+    ensures value { (line : List Char) (skipped : Glance) → or_skipped line result skipped ≡ the_blank state (drop at line) skipped }
+    ensures places { (n : ℕ) → at ≤ n → IfSome result (IsWithin n) }
 {
     match state {
         State::NewLine | State::SkipBlanks => None,
@@ -119,8 +122,9 @@ fn of_category<C: CodeTable>(
     requires least { 1 ≤ at }
     requires most { at ≤ length line.now }
     requires here { One code ≡ get_or line.now (at - 1) (One code) }
-    ensures { (skipped : Glance) → or_skipped line.now result skipped
+    ensures value { (skipped : Glance) → or_skipped line.now result skipped
         ≡ what_is_of_category (codes_by (C.cat_of codes.now) (C.kcat_of codes.now)) state code (C.cat_of codes.now code) (drop at line.now) skipped }
+    ensures places { IfSome result (IsWithin (length line.now)) }
 {
     match codes.cat(code) {
         0 => Some(escaped(codes, line, at)),
@@ -140,8 +144,9 @@ fn met<C: CodeTable>(codes: &C, state: State, first: Char, line: &[Char], at: us
     requires least { 1 ≤ at }
     requires most { at ≤ length line.now }
     requires here { first ≡ get_or line.now (at - 1) first }
-    ensures { (skipped : Glance) → or_skipped line.now result skipped
+    ensures value { (skipped : Glance) → or_skipped line.now result skipped
         ≡ what_is_met (codes_by (C.cat_of codes.now) (C.kcat_of codes.now)) state first (drop at line.now) skipped }
+    ensures places { IfSome result (IsWithin (length line.now)) }
 {
     match first {
         Char::One(code) => of_category(codes, state, code, line, at),
@@ -152,7 +157,8 @@ fn met<C: CodeTable>(codes: &C, state: State, first: Char, line: &[Char], at: us
 /// What stands next in a line from a place on.
 pub(crate) fn in_line<C: CodeTable>(codes: &C, state: State, line: &[Char], at: usize) -> Find
     requires { at ≤ length line.now }
-    ensures { glance_of line.now result ≡ what_is_in_line (codes_by (C.cat_of codes.now) (C.kcat_of codes.now)) state (drop at line.now) }
+    ensures value { glance_of line.now result ≡ what_is_in_line (codes_by (C.cat_of codes.now) (C.kcat_of codes.now)) state (drop at line.now) }
+    ensures places { IsWithin (length line.now) result }
 {
     for place in at..line.len() {
         if let Some(find) = met(codes, state, line[place], line, place + 1) {

@@ -4,9 +4,13 @@ ghost use Rattle.kcat_eyes.specs.StartCodes.{start_cat, start_kcat};
 
 use crate::find::{Find, in_line};
 use crate::state::State;
+use crate::{EyeFault, Eyes, Seen};
+use input_codings::Coding;
 use jis_codes::{Cell, Char};
+use std::alloc::Global;
 use std::test::Fail;
-use tok_lists::{CodeTable, Token};
+use tok_lists::{CodeTable, NameNo, Names, Token};
+use ts_outside::{FileName, MemFile, MemFiles};
 
 struct Start;
 
@@ -91,6 +95,45 @@ fn lines(rt: HostRuntime) -> Result<(), Fail> {
     ];
     for (state, line, find) in table {
         assert_eq!(rt; in_line(&Start, state, line, 0), find);
+    }
+    Ok(())
+}
+
+// What is seen first in a file of these bytes in EUC, with the start names, and reads cut to one
+// byte.
+fn first(alloc: Global, bytes: &[u8]) -> Result<Result<Seen, EyeFault>, Fail> {
+    let name = FileName::new(alloc, b"a.tex")?;
+    let file = MemFile {
+        name: FileName::new(alloc, b"a.tex")?,
+        bytes: bytes.to_vec(alloc)?,
+    };
+    let cuts = vec![in alloc; 1usize]?;
+    let mut files = MemFiles::new(alloc, vec![in alloc; file]?, cuts, Vec::new(alloc));
+    let Ok(mut names) = Names::new(alloc) else {
+        return Err(Fail::from("no memory"));
+    };
+    let mut eyes = Eyes::open(alloc, &mut files, &name, Coding::Euc)?;
+    let seen = eyes.next(&mut files, &Start, &mut names);
+    eyes.close(&mut files);
+    Ok(seen)
+}
+
+#[test]
+fn first_tokens(rt: HostRuntime) -> Result<(), Fail> {
+    let kana = Cell::new(4, 2).ok_or("no cell")?;
+    let table: [(&[u8], Result<Seen, EyeFault>); 6] = [
+        (
+            b"\\\xB4\xC1a \xA4\xA2",
+            Ok(Seen::Token(Token::Name(NameNo(138)))),
+        ),
+        (b"\xA4\xA2 b", Ok(Seen::Token(Token::Ja(kana)))),
+        (b"\x7F", Err(EyeFault::BadChar)),
+        (b"%\xA4\n  %\n\xA4", Err(EyeFault::BadByte(1))),
+        (b"% \n  b", Ok(Seen::Token(Token::Char(b'b', 11)))),
+        (b"", Ok(Seen::End)),
+    ];
+    for (bytes, seen) in table {
+        assert_eq!(rt; first(rt.alloc(), bytes)?, seen);
     }
     Ok(())
 }

@@ -1,0 +1,59 @@
+-- What the eyes of an open file have before them.
+use Rattle.std.specs.Prelude.{◌≡◌, ℕ, ◌+◌, ◌≤◌, Bool, true, false, List, [], drop, Option, Some, None, Result, Ok, Err}
+use Rattle.ts_outside.specs.Agreement.{Cause, Determined, Counted, Free, AgreesFault, ◌>>=◌}
+use Rattle.jis_codes.specs.declared.character.Char.{Char}
+use Rattle.tok_lists.specs.declared.spelling.Spelling.{Spelling}
+use Rattle.input_codings.specs.declared.coding.Coding.{Coding}
+use Rattle.input_codings.specs.declared.fault.OpenFault.{OpenFault}
+use Rattle.input_codings.specs.Lines.{Unread, opened}
+use Rattle.input_codings.specs.Reading.{LinesView, unread}
+use Rattle.kcat_eyes.specs.declared.fault.EyeFault.{EyeFault}
+use Rattle.kcat_eyes.specs.declared.fault.EyeFault.TheVariants as faults
+use Rattle.kcat_eyes.specs.declared.seen.Seen.TheVariants as seen
+use Rattle.kcat_eyes.specs.declared.state.State.{State}
+use Rattle.kcat_eyes.specs.declared.state.State.TheVariants.{NewLine}
+use Rattle.kcat_eyes.specs.Eyes.{Codes, Sight, behind_line, next}
+
+-- the lines of a file, the state, the rest of the present line, and whether it is the last to be read
+pub record EyesView : Type 0 where
+  pub lines : LinesView
+  pub state : State
+  pub rest : List Char
+  pub ends : Bool
+
+abbrev pub line_in : Option (List Char) → List Char
+line_in None = []
+line_in (Some line) = line
+
+-- what the eyes are about to read, where what is left of their file is told
+abbrev pub sight_of : EyesView → Option (List ℕ) → Sight
+sight_of eyes left = record { state = eyes.state; rest = eyes.rest; lines = unread eyes.lines left; ends = eyes.ends }
+
+-- the sight of the present line with the lines behind it
+abbrev pub sight_in : State → ℕ → Option (List Char) → Unread → Bool → Sight
+sight_in state at line lines ends = record { state = state; rest = drop at (line_in line); lines = lines; ends = ends }
+
+abbrev pub eye_cause : EyeFault → Cause
+eye_cause faults.BadChar = Determined
+eye_cause faults.NamesFull = Determined
+eye_cause faults.TooManyLines = Determined
+eye_cause faults.LineTooLong = Determined
+eye_cause (faults.BadByte place) = Determined
+eye_cause faults.ReadFault = Counted
+eye_cause faults.NoMemory = Free
+
+-- After the present line another one is taken, or there is none, or it has a fault.
+abbrev pub Turns : Result Bool EyeFault → Sight → Sight → Type 0
+Turns (Ok true) old new = (codes : Codes) (names : List Spelling) → behind_line codes names old ≡ next codes names new
+Turns (Ok false) old new = (codes : Codes) (names : List Spelling) → behind_line codes names old ≡ Ok (record { seen = seen.End; names = names; sight = new })
+Turns (Err e) old new = (codes : Codes) (names : List Spelling) → AgreesFault (eye_cause e) e (behind_line codes names old)
+
+-- the number of lines after a turn
+abbrev pub CountsTurn : Result Bool EyeFault → ℕ → ℕ → Type 0
+CountsTurn (Ok true) old new = new ≡ old + 1
+CountsTurn (Ok false) old new = new ≡ old
+CountsTurn (Err e) old new = (old ≤ new) × (new ≤ old + 1)
+
+-- the sight of a whole file, where there is one
+abbrev pub first_sight : Coding → Option (List ℕ) → Result Sight OpenFault
+first_sight coding bytes = opened coding bytes >>= λ lines. Ok (record { state = NewLine; rest = []; lines = lines; ends = false })
