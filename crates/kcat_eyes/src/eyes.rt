@@ -1,6 +1,6 @@
 //! The eyes of an open file.
 
-ghost use Rattle.std.specs.Prelude.{◌≡◌, ◌≢◌, ◌≤◌, ◌+◌, true, false, length, drop, IsSome, Some, Option, is_err, Ok, Err, Bool, Result, OnErr, IfOk, IfSome};
+ghost use Rattle.std.specs.Prelude.{◌≡◌, ◌≢◌, ◌≤◌, ◌+◌, true, false, length, drop, IsSome, Some, Option, is_err, Ok, Err, Bool, Result, OnOk, OnErr, IfOk, IfSome};
 ghost use Rattle.ts_outside.specs.Agreement.{Agrees, Counts};
 ghost use Rattle.ts_outside.specs.Reading.{KeepsOthers, KeepsAll, bytes_of};
 ghost use Rattle.kcat_eyes.specs.Eyes.{next as the_next};
@@ -115,6 +115,7 @@ impl Eyes {
         ensures open { F.is_open files.new self.old.lines.file ≡ true }
         ensures others { KeepsOthers self.old.lines.file (F.is_open files.old) (F.left files.old) (F.is_open files.new) (F.left files.new) }
         ensures held { F.held files.new ≡ F.held files.old }
+        ensures unfailed { OnOk result (self.new.lines.failed ≡ false) }
         ensures refused { OnErr result (names.new ≡ names.old) }
         ensures counted { Counts eye_cause result (F.faults files.old) (F.faults files.new) }
     {

@@ -99,9 +99,9 @@ fn lines(rt: HostRuntime) -> Result<(), Fail> {
     Ok(())
 }
 
-// What is seen first in a file of these bytes in EUC, with the start names, and reads cut to one
+// The first two that are seen in a file of these bytes in EUC, with the start names, and reads cut to one
 // byte.
-fn first(alloc: Global, bytes: &[u8]) -> Result<Result<Seen, EyeFault>, Fail> {
+fn first_two(alloc: Global, bytes: &[u8]) -> Result<(Seen, Result<Seen, EyeFault>), Fail> {
     let name = FileName::new(alloc, b"a.tex")?;
     let file = MemFile {
         name: FileName::new(alloc, b"a.tex")?,
@@ -113,27 +113,27 @@ fn first(alloc: Global, bytes: &[u8]) -> Result<Result<Seen, EyeFault>, Fail> {
         return Err(Fail::from("no memory"));
     };
     let mut eyes = Eyes::open(alloc, &mut files, &name, Coding::Euc)?;
-    let seen = eyes.next(&mut files, &Start, &mut names);
+    let first = eyes.next(&mut files, &Start, &mut names)?;
+    let second = eyes.next(&mut files, &Start, &mut names);
     eyes.close(&mut files);
-    Ok(seen)
+    Ok((first, second))
 }
 
 #[test]
 fn first_tokens(rt: HostRuntime) -> Result<(), Fail> {
-    let kana = Cell::new(4, 2).ok_or("no cell")?;
-    let table: [(&[u8], Result<Seen, EyeFault>); 6] = [
-        (
-            b"\\\xB4\xC1a \xA4\xA2",
-            Ok(Seen::Token(Token::Name(NameNo(138)))),
-        ),
-        (b"\xA4\xA2 b", Ok(Seen::Token(Token::Ja(kana)))),
-        (b"\x7F", Err(EyeFault::BadChar)),
-        (b"%\xA4\n  %\n\xA4", Err(EyeFault::BadByte(1))),
-        (b"% \n  b", Ok(Seen::Token(Token::Char(b'b', 11)))),
-        (b"", Ok(Seen::End)),
+    let kana = Seen::Token(Token::Ja(Cell::new(4, 2).ok_or("no cell")?));
+    let space = Seen::Token(Token::Char(b' ', 10));
+    let name = Seen::Token(Token::Name(NameNo(138)));
+    let table: [(&[u8], Seen, Result<Seen, EyeFault>); 6] = [
+        (b"\\\xB4\xC1a \xA4\xA2", name, Ok(kana)),
+        (b"\xA4\xA2 b", kana, Ok(space)),
+        (b"\xA4\xA2%\n  ~", kana, Ok(name)),
+        (b"~\x7F", name, Err(EyeFault::BadChar)),
+        (b"\xA4\xA2\n~\xA4", kana, Err(EyeFault::BadByte(1))),
+        (b"%", Seen::End, Ok(Seen::End)),
     ];
-    for (bytes, seen) in table {
-        assert_eq!(rt; first(rt.alloc(), bytes)?, seen);
+    for (bytes, first, second) in table {
+        assert_eq!(rt; first_two(rt.alloc(), bytes)?, (first, second));
     }
     Ok(())
 }
