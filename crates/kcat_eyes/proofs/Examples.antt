@@ -1,5 +1,5 @@
 -- The definition at worked lines, with the codes that hold at the start.
-use Rattle.std.proofs.Common.{◌≡◌, ℕ, zero, suc, false, List, [], ◌∷◌, Result, Ok, Err, refl}
+use Rattle.std.proofs.Common.{◌≡◌, ℕ, zero, suc, true, false, List, [], ◌∷◌, Result, Ok, Err, refl}
 use Rattle.ts_outside.specs.Agreement.{◌>>=◌}
 use Rattle.input_codings.specs.declared.coding.Coding.TheVariants.{Euc}
 use Rattle.tok_lists.specs.declared.spelling.Spelling.{Spelling}
@@ -9,7 +9,7 @@ use Rattle.kcat_eyes.specs.declared.fault.EyeFault.TheVariants as faults
 use Rattle.kcat_eyes.specs.declared.seen.Seen.{Seen}
 use Rattle.kcat_eyes.specs.declared.seen.Seen.TheVariants as seen
 use Rattle.kcat_eyes.specs.declared.state.State.TheVariants.{NewLine}
-use Rattle.kcat_eyes.specs.Eyes.{Codes, Sight, next}
+use Rattle.kcat_eyes.specs.Eyes.{Codes, Sight, next, needed_line}
 use Rattle.kcat_eyes.specs.StartCodes.{start_cat, start_kcat}
 
 start : Codes
@@ -62,3 +62,14 @@ comment_and_empty_line = refl
 active_and_symbol : looks 4 [] (whole (126 ∷ 92 ∷ 126 ∷ 92 ∷ 32 ∷ 32 ∷ 98 ∷ [])) ≡ Ok (name 0 ∷ name 1 ∷ name 2 ∷ one 98 11 ∷ [])
 unfolding next start whole looks one name
 active_and_symbol = refl
+
+-- `b`, a line that isn't read behind it, where the file ends after its first line
+ends_after_the_first_line : looks 3 [] (record { state = NewLine; rest = []; lines = record { coding = Euc; line_no = 0; bytes = 98 ∷ 10 ∷ 98 ∷ [] }; ends = true })
+    ≡ Ok (one 98 11 ∷ one 32 10 ∷ seen.End ∷ [])
+unfolding next start whole looks one
+ends_after_the_first_line = refl
+
+-- a comment, and an invalid character in the line behind it
+fault_in_the_second_line : needed_line start (whole (37 ∷ 10 ∷ 127 ∷ [])) ≡ 2
+unfolding needed_line start whole
+fault_in_the_second_line = refl

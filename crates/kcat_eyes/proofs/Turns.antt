@@ -1,6 +1,6 @@
 -- The lines behind the present one, by the next of them.
-use Rattle.std.proofs.Common.{◌≡◌, ℕ, ◌+◌, List, [], ◌∷◌, Bool, true, false, Option, Some, None, Result, Ok, Err, refl, sym, ap, ◌∙◌}
-use Rattle.std.specs.Prelude.{◌==◌}
+use Rattle.std.proofs.Common.{◌≡◌, ◌≢◌, ℕ, zero, suc, arith, ◌+◌, ◌-◌, ◌<◌, List, [], ◌∷◌, take, Bool, true, false, Option, Some, None, Result, Ok, Err, refl, sym, ap, ◌∙◌}
+use Rattle.std.specs.Prelude.{◌==◌, if◌then◌else◌}
 use mathlib.Core.Bool.{false≢true}
 use Rattle.std.specs.Result.{IsErr, IsErrAnd}
 use Rattle.kcat_eyes.specs.declared.seen.Seen.{Seen}
@@ -10,10 +10,13 @@ use Rattle.tok_lists.specs.declared.spelling.Spelling.{Spelling}
 use Rattle.input_codings.specs.declared.fault.LineFault.{LineFault}
 use Rattle.input_codings.specs.Pieces.{Piece, pieces, after_ten, byte_then}
 use Rattle.input_codings.specs.Lines.{Unread, past_line, characters, first_of}
+use Rattle.kcat_eyes.specs.declared.find.Find.{Find}
+use Rattle.kcat_eyes.specs.declared.find.Find.TheVariants as finds
 use Rattle.kcat_eyes.specs.declared.state.State.TheVariants.{NewLine}
 use Rattle.kcat_eyes.specs.declared.fault.EyeFault.{EyeFault}
-use Rattle.kcat_eyes.specs.Eyes.{Codes, Sight, Look, Nothing, in_line, in_lines, behind_line, next, looked, or_eye_fault}
-use Rattle.kcat_eyes.specs.Sights.{eye_cause}
+use Rattle.kcat_eyes.specs.Eyes.{Codes, Sight, Look, Glance, Gives, Spells, Invalid, Nothing, in_line, in_lines, still_read, behind_line, next, looked, or_eye_fault, is_nothing, last_needed, needed_behind_line, needed_line}
+use Rattle.kcat_eyes.specs.Finds.{glance_of}
+use Rattle.kcat_eyes.specs.Sights.{eye_cause, IsLine, EndsAtLine}
 
 tail : List Piece → List Piece
 tail [] = []
@@ -34,6 +37,17 @@ unfolding tail
 pieces_tail [] = refl
 pieces_tail (b ∷ bs) = split b bs _ refl (pieces_tail bs)
 
+-- of these pieces, those of the lines that are still read
+abbrev still_of : Unread → Bool → List Piece → List Piece
+still_of u ends ps = if ends then take (1 - u.line_no) ps else ps
+
+-- A line is read.
+record Reads (u u' : Unread) (ends : Bool) (ps : List Piece) (cs : List Char) : Type 0 where
+  piece : Piece
+  first : still_of u ends ps ≡ piece ∷ still_read u' ends
+  line : characters u.coding (u.line_no + 1) piece ≡ Ok cs
+  past : u' ≡ past_line u
+
 given : Unread → List Char → Result (Option (List Char) × Unread) LineFault
 given u line = Ok (Some line, past_line u)
 
@@ -43,32 +57,56 @@ told pair = Ok pair
 pair_of : (a b : Option (List Char) × Unread) → told a ≡ told b → a ≡ b
 pair_of a b is = cc
 
-some_of : (codes : Codes) (names : List Spelling) (u u' : Unread) (r : Result (List Char) LineFault) (cs : List Char) (ps : List Piece)
-    → r >>= given u ≡ Ok (Some cs, u') → pieces (after_ten u.bytes) ≡ ps
-    → (or_eye_fault r >>= λ line. looked names (past_line u) false (in_line codes NewLine line) (in_lines codes names (past_line u) ps))
-    ≡ looked names u' false (in_line codes NewLine cs) (in_lines codes names u' (pieces u'.bytes))
+given_line : (u u' : Unread) (r : Result (List Char) LineFault) (cs : List Char) → r >>= given u ≡ Ok (Some cs, u') → (r ≡ Ok cs) × (u' ≡ past_line u)
 unfolding given
-some_of codes names u u' (Ok c) cs ps is rest =
+given_line u u' (Ok c) cs is =
     let pair = pair_of (Some c, past_line u) (Some cs, u') is in
     let lines : Some c ≡ Some cs = ap (λ (p : Option (List Char) × Unread). p.0) pair in
-    let first : c ≡ cs = cc in
-    let behind : past_line u ≡ u' = ap (λ (p : Option (List Char) × Unread). p.1) pair in
-    rw (← first, ← behind, rest) refl
-some_of codes names u u' (Err e) cs ps is rest = absurd cc
+    let same : c ≡ cs = cc in
+    (ap (λ (x : List Char). Ok x) same, sym (ap (λ (p : Option (List Char) × Unread). p.1) pair))
+given_line u u' (Err e) cs is = absurd cc
 
-lines_some : (codes : Codes) (names : List Spelling) (u u' : Unread) (cs : List Char) (ps : List Piece) → pieces (after_ten u.bytes) ≡ tail ps → first_of u ps ≡ Ok (Some cs, u')
-    → in_lines codes names u ps ≡ looked names u' false (in_line codes NewLine cs) (in_lines codes names u' (pieces u'.bytes))
+reads_of : (u u' : Unread) (ends : Bool) (cs : List Char) (ps : List Piece) → pieces (after_ten u.bytes) ≡ tail ps → (ends ≡ true → u.line_no ≡ 0) → first_of u ps ≡ Ok (Some cs, u') → Reads u u' ends ps cs
 unfolding tail given
-lines_some codes names u u' cs [] rest is = absurd (let lines : None ≡ Some cs = ap (λ (p : Option (List Char) × Unread). p.0) (pair_of (None, u) (Some cs, u') is) in cc)
-lines_some codes names u u' cs (p ∷ ps) rest is = some_of codes names u u' (characters u.coding (u.line_no + 1) p) cs ps is rest
+reads_of u u' ends cs [] rest start is = absurd (let lines : None ≡ Some cs = ap (λ (p : Option (List Char) × Unread). p.0) (pair_of (None, u) (Some cs, u') is) in cc)
+reads_of u u' false cs (p ∷ ps) rest start is =
+    let line = given_line u u' (characters u.coding (u.line_no + 1) p) cs is in
+    record { piece = p; first = rw (line.1, rest) refl; line = line.0; past = line.1 }
+reads_of u u' true cs (p ∷ ps) rest start is =
+    let line = given_line u u' (characters u.coding (u.line_no + 1) p) cs is in
+    let one : take (1 - u.line_no) (p ∷ ps) ≡ p ∷ [] = rw (start refl) refl in
+    let none : still_read (past_line u) true ≡ [] = rw (start refl) refl in
+    record { piece = p; first = rw (line.1, none) one; line = line.0; past = line.1 }
 
-pub turn_some : (codes : Codes) (names : List Spelling) (u u' : Unread) (cs : List Char) → first_of u (pieces u.bytes) ≡ Ok (Some cs, u')
-    → in_lines codes names u (pieces u.bytes) ≡ looked names u' false (in_line codes NewLine cs) (in_lines codes names u' (pieces u'.bytes))
-turn_some codes names u u' cs is = lines_some codes names u u' cs (pieces u.bytes) (pieces_tail u.bytes) is
+reads : (u u' : Unread) (ends : Bool) (cs : List Char) → (ends ≡ true → u.line_no ≡ 0) → first_of u (pieces u.bytes) ≡ Ok (Some cs, u') → Reads u u' ends (pieces u.bytes) cs
+reads u u' ends cs start is = reads_of u u' ends cs (pieces u.bytes) (pieces_tail u.bytes) start is
+
+pub turn_some : (codes : Codes) (names : List Spelling) (ends : Bool) (u u' : Unread) (cs : List Char) → (ends ≡ true → u.line_no ≡ 0) → first_of u (pieces u.bytes) ≡ Ok (Some cs, u')
+    → in_lines codes names ends u (still_read u ends) ≡ looked names u' ends (in_line codes NewLine cs) (in_lines codes names ends u' (still_read u' ends))
+turn_some codes names ends u u' cs start is = let r = reads u u' ends cs start is in rw (r.first, r.line, r.past) refl
+
+pub needed_some : (codes : Codes) (ends : Bool) (u u' : Unread) (cs : List Char) → (ends ≡ true → u.line_no ≡ 0) → first_of u (pieces u.bytes) ≡ Ok (Some cs, u')
+    → last_needed codes u (still_read u ends) ≡ needed_line codes (record { state = NewLine; rest = cs; lines = u'; ends = ends })
+unfolding needed_line
+needed_some codes ends u u' cs start is = let r = reads u u' ends cs start is in rw (r.first, r.line, r.past) refl
 
 pub nothing_next : (codes : Codes) (names : List Spelling) (sight : Sight) → in_line codes sight.state sight.rest ≡ Nothing → next codes names sight ≡ behind_line codes names sight
 unfolding next
 nothing_next codes names sight none = rw none refl
+
+pub nothing_needed : (codes : Codes) (sight : Sight) → in_line codes sight.state sight.rest ≡ Nothing → needed_line codes sight ≡ needed_behind_line codes sight
+unfolding needed_line
+nothing_needed codes sight none = rw none refl
+
+something : (glance : Glance) → glance ≢ Nothing → is_nothing glance ≡ false
+something (Gives token state rest) some = refl
+something (Spells spelling state rest) some = refl
+something Invalid some = refl
+something Nothing some = absurd (some refl)
+
+pub something_needed : (codes : Codes) (sight : Sight) → in_line codes sight.state sight.rest ≢ Nothing → needed_line codes sight ≡ sight.lines.line_no
+unfolding needed_line
+something_needed codes sight some = rw (something _ some) refl
 
 pub fault_at : (e : EyeFault) {a b : Result Look EyeFault} (cause : Cause) → a ≡ b → AgreesFault cause e b → AgreesFault cause e a
 fault_at e Determined same is = same ∙ is
@@ -79,3 +117,23 @@ pub refusal : (view : Seen → Look) (result : Result Seen EyeFault) (e : EyeFau
     → AgreesFault (eye_cause e) e b → Agrees view eye_cause result a
 refusal view (Ok x) e err same is = absurd (false≢true err.0)
 refusal view (Err d) e err same is = rw err.1 (fault_at e (eye_cause e) same is)
+
+line_of : (cause : Cause) (n m : ℕ) → n ≡ m → IsLine cause n m
+line_of Determined n m is = is
+line_of Counted n m is = _
+line_of Free n m is = _
+
+pub any_line : (result : Result Seen EyeFault) (n m : ℕ) → n ≡ m → EndsAtLine result n m
+any_line (Ok x) n m is = is
+any_line (Err e) n m is = line_of (eye_cause e) n m is
+
+pub refusal_line : (result : Result Seen EyeFault) (e : EyeFault) (n m m' : ℕ) → IsErr result × IsErrAnd result (λ d. d ≡ e) → m' ≡ m → IsLine (eye_cause e) n m → EndsAtLine result n m'
+refusal_line (Ok x) e n m m' err same is = absurd (false≢true err.0)
+refusal_line (Err d) e n m m' err same is = rw (err.1, same) is
+
+pub glance_something : (line : List Char) (found : Find) → found ≢ finds.Nothing → glance_of line found ≢ Nothing
+glance_something line (finds.Token token state at) some = λ is. cc
+glance_something line (finds.Name active from to state) some = λ is. cc
+glance_something line finds.Paragraph some = λ is. cc
+glance_something line finds.Invalid some = λ is. cc
+glance_something line finds.Nothing some = absurd (some refl)

@@ -1,5 +1,5 @@
 -- The next token of a file: what stands in the rest of a line, and else in the lines behind it (The TeXbook, chapter 8; pTeX).
-use Rattle.std.specs.Prelude.{ℕ, suc, ◌+◌, ◌==◌, ◌||◌, Bool, true, false, if◌then◌else◌, List, [], ◌∷◌, take, drop, Result, Ok, Err, codes}
+use Rattle.std.specs.Prelude.{ℕ, suc, ◌+◌, ◌-◌, ◌==◌, ◌||◌, Bool, true, false, if◌then◌else◌, List, [], ◌∷◌, take, drop, Result, Ok, Err, codes}
 use Rattle.ts_outside.specs.Agreement.{◌>>=◌}
 use Rattle.jis_codes.specs.Kuten.{Kuten}
 use Rattle.jis_codes.specs.declared.character.Char.{Char}
@@ -110,7 +110,8 @@ in_line codes state (c ∷ rest) = met codes state c rest (in_line codes state r
 
 -- ---- a file
 
--- what the eyes are about to read: the state, the rest of the present line, the lines behind it, and whether these aren't read
+-- what the eyes are about to read: the state, the rest of the present line, the lines behind it, and whether the file ends
+-- after the line that was taken last, or after its first line where none was taken yet
 pub record Sight : Type 0 where
   pub state : State
   pub rest : List Char
@@ -157,16 +158,46 @@ looked names lines ends Nothing behind = behind
 abbrev pub at_end : List Spelling → Unread → Bool → Look
 at_end names lines ends = record { seen = seen.End; names = names; sight = record { state = NewLine; rest = []; lines = lines; ends = ends } }
 
+-- the lines that are still read
+abbrev pub still_read : Unread → Bool → List Piece
+still_read lines ends = if ends then take (1 - lines.line_no) (pieces lines.bytes) else pieces lines.bytes
+
 -- what is seen in lines, of which the first is needed
-abbrev pub in_lines : Codes → List Spelling → Unread → List Piece → Result Look EyeFault
-in_lines codes names lines [] = Ok (at_end names lines false)
-in_lines codes names lines (p ∷ ps) =
+abbrev pub in_lines : Codes → List Spelling → Bool → Unread → List Piece → Result Look EyeFault
+in_lines codes names ends lines [] = Ok (at_end names lines ends)
+in_lines codes names ends lines (p ∷ ps) =
     or_eye_fault (characters lines.coding (lines.line_no + 1) p)
-    >>= λ line. looked names (past_line lines) false (in_line codes NewLine line) (in_lines codes names (past_line lines) ps)
+    >>= λ line. looked names (past_line lines) ends (in_line codes NewLine line) (in_lines codes names ends (past_line lines) ps)
 
 abbrev pub behind_line : Codes → List Spelling → Sight → Result Look EyeFault
-behind_line codes names sight = if sight.ends then Ok (at_end names sight.lines true) else in_lines codes names sight.lines (pieces sight.lines.bytes)
+behind_line codes names sight = in_lines codes names sight.ends sight.lines (still_read sight.lines sight.ends)
 
 -- the next token, or the end of the file, or the fault
 unfoldable pub next : Codes → List Spelling → Sight → Result Look EyeFault
 next codes names sight = looked names sight.lines sight.ends (in_line codes sight.state sight.rest) (behind_line codes names sight)
+
+-- ---- the number of the line
+
+abbrev pub is_nothing : Glance → Bool
+is_nothing (Gives token state rest) = false
+is_nothing (Spells spelling state rest) = false
+is_nothing Invalid = false
+is_nothing Nothing = true
+
+-- whether a line that is needed gives nothing, so that the line behind it is needed too
+abbrev pub gives_nothing : Codes → Result (List Char) LineFault → Bool
+gives_nothing codes (Ok line) = is_nothing (in_line codes NewLine line)
+gives_nothing codes (Err fault) = false
+
+-- the number of the last line that is needed, of lines of which the first is needed
+abbrev pub last_needed : Codes → Unread → List Piece → ℕ
+last_needed codes lines [] = lines.line_no
+last_needed codes lines (p ∷ ps) =
+    if gives_nothing codes (characters lines.coding (lines.line_no + 1) p) then last_needed codes (past_line lines) ps else lines.line_no + 1
+
+abbrev pub needed_behind_line : Codes → Sight → ℕ
+needed_behind_line codes sight = last_needed codes sight.lines (still_read sight.lines sight.ends)
+
+-- the number of the last line that the next token needs and that is there, also where there is a fault
+unfoldable pub needed_line : Codes → Sight → ℕ
+needed_line codes sight = if is_nothing (in_line codes sight.state sight.rest) then needed_behind_line codes sight else sight.lines.line_no

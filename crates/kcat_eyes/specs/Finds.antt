@@ -2,6 +2,8 @@
 use Rattle.std.specs.Prelude.{ℕ, ◌-◌, ◌≤◌, List, [], take, drop, Option, Some, None}
 use Rattle.jis_codes.specs.Kuten.{Kuten}
 use Rattle.jis_codes.specs.declared.character.Char.{Char}
+use Rattle.tok_lists.specs.declared.token.Token.{Token}
+use Rattle.tok_lists.specs.declared.token.Token.TheVariants as tokens
 use Rattle.kcat_eyes.specs.declared.find.Find.{Find}
 use Rattle.kcat_eyes.specs.declared.find.Find.TheVariants as finds
 use Rattle.kcat_eyes.specs.declared.state.State.TheVariants.{NewLine}
@@ -23,9 +25,16 @@ abbrev pub or_skipped : List Char → Option Find → Glance → Glance
 or_skipped line None skipped = skipped
 or_skipped line (Some find) skipped = glance_of line find
 
--- The places of a find are within a line of so many characters.
+abbrev pub IsCharacter : Token → Type 0
+IsCharacter (tokens.Char code cat) = Unit {0}
+IsCharacter (tokens.Ja cell) = Unit {0}
+IsCharacter (tokens.Name name) = ⊥
+IsCharacter (tokens.Kept name) = ⊥
+IsCharacter (tokens.Param n) = ⊥
+
+-- The places of a find are within a line of so many characters, and its token is a character.
 abbrev pub IsWithin : ℕ → Find → Type 0
-IsWithin n (finds.Token token state at) = at ≤ n
+IsWithin n (finds.Token token state at) = (at ≤ n) × IsCharacter token
 IsWithin n (finds.Name active from to state) = (from ≤ to) × (to ≤ n)
 IsWithin n finds.Paragraph = Unit {0}
 IsWithin n finds.Invalid = Unit {0}

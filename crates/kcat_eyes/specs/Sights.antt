@@ -1,20 +1,22 @@
 -- What the eyes of an open file have before them.
-use Rattle.std.specs.Prelude.{◌≡◌, ℕ, ◌+◌, ◌≤◌, Bool, true, false, List, [], drop, Option, Some, None, Result, Ok, Err}
+use Rattle.std.specs.Prelude.{◌≡◌, ℕ, ◌+◌, ◌≤◌, ◌<◌, Bool, true, false, List, [], length, drop, Option, Some, None, Result, Ok, Err}
 use Rattle.ts_outside.specs.Agreement.{Cause, Determined, Counted, Free, AgreesFault, ◌>>=◌}
 use Rattle.jis_codes.specs.declared.character.Char.{Char}
 use Rattle.tok_lists.specs.declared.spelling.Spelling.{Spelling}
+use Rattle.tok_lists.specs.declared.token.Token.TheVariants as tokens
 use Rattle.input_codings.specs.declared.coding.Coding.{Coding}
 use Rattle.input_codings.specs.declared.fault.OpenFault.{OpenFault}
 use Rattle.input_codings.specs.Lines.{Unread, opened}
 use Rattle.input_codings.specs.Reading.{LinesView, unread}
 use Rattle.kcat_eyes.specs.declared.fault.EyeFault.{EyeFault}
 use Rattle.kcat_eyes.specs.declared.fault.EyeFault.TheVariants as faults
+use Rattle.kcat_eyes.specs.declared.seen.Seen.{Seen}
 use Rattle.kcat_eyes.specs.declared.seen.Seen.TheVariants as seen
 use Rattle.kcat_eyes.specs.declared.state.State.{State}
 use Rattle.kcat_eyes.specs.declared.state.State.TheVariants.{NewLine}
-use Rattle.kcat_eyes.specs.Eyes.{Codes, Sight, behind_line, next}
+use Rattle.kcat_eyes.specs.Eyes.{Codes, Sight, behind_line, next, needed_behind_line, needed_line}
 
--- the lines of a file, the state, the rest of the present line, and whether it is the last to be read
+-- the lines of a file, the state, the rest of the present line, and whether the file ends after this line
 pub record EyesView : Type 0 where
   pub lines : LinesView
   pub state : State
@@ -47,6 +49,31 @@ abbrev pub Turns : Result Bool EyeFault → Sight → Sight → Type 0
 Turns (Ok true) old new = (codes : Codes) (names : List Spelling) → behind_line codes names old ≡ next codes names new
 Turns (Ok false) old new = (codes : Codes) (names : List Spelling) → behind_line codes names old ≡ Ok (record { seen = seen.End; names = names; sight = new })
 Turns (Err e) old new = (codes : Codes) (names : List Spelling) → AgreesFault (eye_cause e) e (behind_line codes names old)
+
+abbrev pub IsLine : Cause → ℕ → ℕ → Type 0
+IsLine Determined line_no needed = line_no ≡ needed
+IsLine Counted line_no needed = Unit {0}
+IsLine Free line_no needed = Unit {0}
+
+-- After an answer that is determined, the number of lines is that of the last line that was needed.
+abbrev pub EndsAtLine : {X : Type 0} → Result X EyeFault → ℕ → ℕ → Type 0
+EndsAtLine (Ok x) line_no needed = line_no ≡ needed
+EndsAtLine (Err e) line_no needed = IsLine (eye_cause e) line_no needed
+
+-- the last line that is needed, from one turn on
+abbrev pub TurnsLine : Result Bool EyeFault → Sight → Sight → Type 0
+TurnsLine (Ok true) old new = (codes : Codes) → needed_behind_line codes old ≡ needed_line codes new
+TurnsLine (Ok false) old new = (codes : Codes) → new.lines.line_no ≡ needed_behind_line codes old
+TurnsLine (Err e) old new = (codes : Codes) → IsLine (eye_cause e) new.lines.line_no (needed_behind_line codes old)
+
+-- What is seen is a character, a name that is held, or the end.
+abbrev pub IsSeen : List Spelling → Seen → Type 0
+IsSeen names (seen.Token (tokens.Char code cat)) = Unit {0}
+IsSeen names (seen.Token (tokens.Ja cell)) = Unit {0}
+IsSeen names (seen.Token (tokens.Name name)) = name.0 < length names
+IsSeen names (seen.Token (tokens.Kept name)) = ⊥
+IsSeen names (seen.Token (tokens.Param n)) = ⊥
+IsSeen names seen.End = Unit {0}
 
 -- the number of lines after a turn
 abbrev pub CountsTurn : Result Bool EyeFault → ℕ → ℕ → Type 0

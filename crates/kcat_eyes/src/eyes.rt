@@ -1,11 +1,12 @@
 //! The eyes of an open file.
 
 ghost use Rattle.std.specs.Prelude.{◌≡◌, ◌≢◌, ◌≤◌, ◌+◌, true, false, length, drop, IsSome, Some, Option, is_err, Ok, Err, Bool, Result, OnOk, OnErr, IfOk, IfSome};
+ghost use Rattle.tok_lists.specs.Names.{KeepsNumbers};
 ghost use Rattle.ts_outside.specs.Agreement.{Agrees, Counts};
 ghost use Rattle.ts_outside.specs.Reading.{KeepsOthers, KeepsAll, bytes_of};
-ghost use Rattle.kcat_eyes.specs.Eyes.{next as the_next};
+ghost use Rattle.kcat_eyes.specs.Eyes.{next as the_next, needed_line};
 ghost use Rattle.kcat_eyes.specs.Finds.{codes_by, glance_of, IsWithin};
-ghost use Rattle.kcat_eyes.specs.Sights.{line_in, sight_of, eye_cause, first_sight};
+ghost use Rattle.kcat_eyes.specs.Sights.{line_in, sight_of, eye_cause, first_sight, EndsAtLine, IsSeen};
 ghost use Rattle.input_codings.specs.Lines.{open_cause};
 
 use crate::fault::EyeFault;
@@ -25,6 +26,7 @@ use ts_outside::{FileName, Files};
 pub struct Eyes {
     lines: Lines,
     present: Present,
+    // Whether the file ends after the present line, or after its first one.
     ends: bool,
 }
 
@@ -87,6 +89,14 @@ impl Eyes {
         self.lines.line_no()
     }
 
+    /// Ends the file after the present line, of which the rest is still read; before the first
+    /// line was taken, after the first line (The TeXbook, chapter 20).
+    pub fn end_after_line(&mut self)
+        ensures { self.new ≡ record { lines = self.old.lines; state = self.old.state; rest = self.old.rest; ends = true } }
+    {
+        self.ends = true;
+    }
+
     /// Closes the file.
     pub fn close<F: Files>(self, files: &mut F)
         requires { F.is_open files.old self.lines.file ≡ true }
@@ -110,12 +120,17 @@ impl Eyes {
         ensures exact { IsSome (F.left files.old self.old.lines.file)
             → Agrees (λ seen. record { seen = seen; names = names.new; sight = sight_of self.new (F.left files.new self.old.lines.file) }) eye_cause result
             (the_next (codes_by (C.cat_of codes.now) (C.kcat_of codes.now)) names.old (sight_of self.old (F.left files.old self.old.lines.file))) }
+        ensures place { IsSome (F.left files.old self.old.lines.file)
+            → EndsAtLine result self.new.lines.line_no (needed_line (codes_by (C.cat_of codes.now) (C.kcat_of codes.now)) (sight_of self.old (F.left files.old self.old.lines.file))) }
         ensures told { IsSome (F.left files.old self.old.lines.file) → IsSome (F.left files.new self.old.lines.file) }
+        ensures rises { self.old.lines.line_no ≤ self.new.lines.line_no }
         ensures file { self.new.lines.file ≡ self.old.lines.file }
         ensures open { F.is_open files.new self.old.lines.file ≡ true }
         ensures others { KeepsOthers self.old.lines.file (F.is_open files.old) (F.left files.old) (F.is_open files.new) (F.left files.new) }
         ensures held { F.held files.new ≡ F.held files.old }
         ensures unfailed { OnOk result (self.new.lines.failed ≡ false) }
+        ensures spelt { IfOk result (IsSeen names.new) }
+        ensures kept { KeepsNumbers names.old names.new }
         ensures refused { OnErr result (names.new ≡ names.old) }
         ensures counted { Counts eye_cause result (F.faults files.old) (F.faults files.new) }
     {

@@ -1,6 +1,7 @@
 //! The present line.
 
-ghost use Rattle.std.specs.Prelude.{◌≡◌, ◌≢◌, ◌≤◌, length, drop, true, false, Bool, Result, Err, OnErr, IsSome, is_err};
+ghost use Rattle.std.specs.Prelude.{◌≡◌, ◌≢◌, ◌≤◌, length, drop, true, false, Bool, Result, Err, OnErr, IfOk, IsSome, is_err};
+ghost use Rattle.tok_lists.specs.Names.{KeepsNumbers};
 ghost use Rattle.ts_outside.specs.Agreement.{Counts};
 ghost use Rattle.ts_outside.specs.Reading.{KeepsOthers};
 ghost use Rattle.input_codings.specs.Reading.{unread};
@@ -8,7 +9,7 @@ ghost use Rattle.ts_outside.specs.Agreement.{Agrees};
 ghost use Rattle.input_codings.specs.Lines.{Unread};
 ghost use Rattle.kcat_eyes.specs.Eyes.{Look, Sight, in_line as what_is_in_line, looked, named, eye_fault as the_eye_fault};
 ghost use Rattle.kcat_eyes.specs.Finds.{codes_by, glance_of, IsWithin};
-ghost use Rattle.kcat_eyes.specs.Sights.{line_in, eye_cause, sight_in, Turns, CountsTurn};
+ghost use Rattle.kcat_eyes.specs.Sights.{line_in, eye_cause, sight_in, IsSeen, Turns, TurnsLine, CountsTurn};
 
 use crate::fault::EyeFault;
 use crate::find::{Find, in_line};
@@ -52,6 +53,8 @@ fn name(names: &mut Names, active: bool, chars: &[Char]) -> Result<Seen, EyeFaul
     ensures exact { (sight : Sight) → Agrees (λ seen. record { seen = seen; names = names.new; sight = sight }) eye_cause result
         (named (record { active = active; chars = chars.now }) names.old sight) }
     ensures quiet { result ≢ Err EyeFault.ReadFault }
+    ensures spelt { IfOk result (IsSeen names.new) }
+    ensures kept { KeepsNumbers names.old names.new }
     ensures refused { OnErr result (names.new ≡ names.old) }
 {
     match names.intern(active, chars) {
@@ -71,6 +74,8 @@ pub(crate) fn see(present: &mut Present, found: Find, names: &mut Names) -> Resu
         (looked names.old lines ends (glance_of (line_in present.old.line) found) behind) }
     ensures within { present.new.at ≤ length (line_in present.new.line) }
     ensures quiet { result ≢ Err EyeFault.ReadFault }
+    ensures spelt { IfOk result (IsSeen names.new) }
+    ensures kept { KeepsNumbers names.old names.new }
     ensures refused { OnErr result (names.new ≡ names.old) }
 {
     match found {
@@ -110,7 +115,7 @@ fn eye_fault(fault: LineFault) -> EyeFault
     }
 }
 
-/// Takes the next line, where there is one and the present one isn't the last to be read.
+/// Takes the next line, where there is one and the file doesn't end after the present one.
 pub(crate) fn turn<F: Files>(
     present: &mut Present,
     lines: &mut Lines,
@@ -121,6 +126,9 @@ pub(crate) fn turn<F: Files>(
     requires unfailed { lines.old.failed ≡ false }
     ensures exact { IsSome (F.left files.old lines.old.file)
         → Turns result (sight_in present.old.state present.old.at present.old.line (unread lines.old (F.left files.old lines.old.file)) ends)
+        (sight_in present.new.state present.new.at present.new.line (unread lines.new (F.left files.new lines.old.file)) ends) }
+    ensures place { IsSome (F.left files.old lines.old.file)
+        → TurnsLine result (sight_in present.old.state present.old.at present.old.line (unread lines.old (F.left files.old lines.old.file)) ends)
         (sight_in present.new.state present.new.at present.new.line (unread lines.new (F.left files.new lines.old.file)) ends) }
     ensures told { IsSome (F.left files.old lines.old.file) → IsSome (F.left files.new lines.old.file) }
     ensures within { present.new.at ≤ length (line_in present.new.line) }
@@ -135,7 +143,7 @@ pub(crate) fn turn<F: Files>(
     present.line = None;
     present.at = 0;
     present.state = State::NewLine;
-    if ends {
+    if ends && lines.line_no() > 0 {
         return Ok(false);
     }
     match lines.next_line(files) {
