@@ -1,8 +1,4 @@
-//! Why a call of this crate refuses.
-
-/// Memory ran out.
-#[derive(Clone, Copy, Debug, PartialEq, Eq, Hash)]
-pub struct NoMemory;
+//! Why a spelling gets no number.
 
 /// Why a spelling gets no number.
 #[derive(Clone, Copy, Debug, PartialEq, Eq, Hash)]

@@ -7,8 +7,8 @@ ghost use Rattle.tok_lists.specs.Same.{is_same};
 ghost use Rattle.tok_lists.specs.Names.{number_in, with_name, numbered, cause_of, AreFewAndDistinct, KeepsNumbers, HaveOneNumberEach};
 ghost use Rattle.tok_lists.specs.StartNames.{start_names, control_word};
 
-use crate::chars::Chars;
-use crate::fault::{NamesFault, NoMemory};
+use crate::fault::NamesFault;
+use crate::lists::Chars;
 use crate::spelling::Spelling;
 use crate::start::START_WORDS;
 use crate::token::NameNo;
@@ -17,6 +17,7 @@ use jis_codes::Char;
 use std::alloc::Global;
 use std::marker::Model;
 use std::mem;
+use ts_lists::NoMemory;
 
 /// How many names there may be, those of the start counted.
 const MOST_NAMES: usize = 50_000;

@@ -6,7 +6,7 @@ ghost use Rattle.std.specs.Cmp.{partial_equiv_from_equiv};
 ghost use Rattle.std.proofs.Common.{ap};
 ghost use Rattle.tok_lists.specs.Same.{is_same, is_same-equiv, is_same-decides};
 
-use crate::chars::Chars;
+use crate::lists::Chars;
 use jis_codes::Char;
 use std::hash::{Hash, Hasher};
 
