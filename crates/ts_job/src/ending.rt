@@ -50,11 +50,11 @@ fn ending_asked<F: Files>(alloc: Global, files: &mut F, asked: Request) -> Endin
 
 /// How the words of a command line end.
 #[tactic(auto, unfolding(crate::specs::Promise::pages_meant, crate::specs::Promise::outcome_meant))]
-pub(crate) fn ending_of<F: Files>(alloc: Global, words: &[String], files: &mut F) -> Ending
+pub(crate) fn ending_of<F: Files>(alloc: Global, words: &Vec<String>, files: &mut F) -> Ending
     ensures exact { (held : List Held) → F.held files.old ≡ Some held
-        → IsEnding (held_widths held) (pages_meant held (map string_bytes words.now))
-        (outcome_meant held (map string_bytes words.now)) result }
-    ensures usage { RefusesWords (outcome_ended result) (what_is_asked (map string_bytes words.now)) }
+        → IsEnding (held_widths held) (pages_meant held (map string_bytes words.now.items))
+        (outcome_meant held (map string_bytes words.now.items)) result }
+    ensures usage { RefusesWords (outcome_ended result) (what_is_asked (map string_bytes words.now.items)) }
     ensures kept { KeepsAll (F.is_open files.old) (F.left files.old) (F.is_open files.new) (F.left files.new) }
     ensures held { F.held files.new ≡ F.held files.old }
     ensures counted { CountsFiles (outcome_ended result) (F.faults files.old) (F.faults files.new) }

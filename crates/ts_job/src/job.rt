@@ -32,21 +32,21 @@ fn tell<R: Sink>(alloc: Global, outcome: &Outcome, report: &mut R) -> Result<(),
 #[tactic(auto, using(crate::proofs::Endings::complete))]
 pub fn run<F: Files, S: Sink, R: Sink>(
     alloc: Global,
-    words: &[String],
+    words: &Vec<String>,
     files: &mut F,
     out: &mut S,
     report: &mut R,
 ) -> Outcome
     ensures outcome { (held : List Held) → F.held files.old ≡ Some held
-        → EndsAs result (outcome_meant held (map string_bytes words.now)) }
-    ensures usage { RefusesWords result (asked (map string_bytes words.now)) }
+        → EndsAs result (outcome_meant held (map string_bytes words.now.items)) }
+    ensures usage { RefusesWords result (asked (map string_bytes words.now.items)) }
     ensures pages { (held : List Held) → F.held files.old ≡ Some held
-        → Writes result (held_widths held) (pages_meant held (map string_bytes words.now)) (S.held out.old) (S.held out.new) }
+        → Writes result (held_widths held) (pages_meant held (map string_bytes words.now.items)) (S.held out.old) (S.held out.new) }
     ensures silent { PutsNothing result (S.held out.old) (S.held out.new) }
     ensures text { (held : List Held) → F.held files.old ≡ Some held
-        → Reports result (report_meant held (map string_bytes words.now)) (R.held report.old) (R.held report.new) }
+        → Reports result (report_meant held (map string_bytes words.now.items)) (R.held report.old) (R.held report.new) }
     ensures complete { (held : List Held) → F.held files.old ≡ Some held
-        → outcome_meant held (map string_bytes words.now) ≡ outcomes.Done
+        → outcome_meant held (map string_bytes words.now.items) ≡ outcomes.Done
         → (Rose (F.faults files.old) (F.faults files.new) → ⊥)
         → (Rose (S.faults out.old) (S.faults out.new) → ⊥)
         → (Rose (R.faults report.old) (R.faults report.new) → ⊥)

@@ -8,7 +8,7 @@ use Rattle.ts_job.proofs.job.run.Goals.{in-Page+in-Ok, in-Fault, in-Usage}
 
 pub returns-in-Ok-tell-clause-text : goal.returns-in-Ok-tell-clause-text
 returns-in-Ok-tell-clause-text g c = λ held told.
-    let words = map string_bytes c.args.words.now in
+    let words = map string_bytes c.args.words.now.items in
     let widths = held_widths held in
     let pages = pages_meant held words in
     elim c.match-ending_of.branch [
@@ -19,7 +19,7 @@ returns-in-Ok-tell-clause-text g c = λ held told.
 
 pub returns-in-Err-Failed-tell-clause-text : goal.returns-in-Err-Failed-tell-clause-text
 returns-in-Err-Failed-tell-clause-text g c = λ held told.
-    let words = map string_bytes c.args.words.now in
+    let words = map string_bytes c.args.words.now.items in
     let widths = held_widths held in
     let pages = pages_meant held words in
     elim c.match-ending_of.branch [
@@ -30,7 +30,7 @@ returns-in-Err-Failed-tell-clause-text g c = λ held told.
 
 pub returns-clause-text : goal.returns-clause-text
 returns-clause-text g c = λ held told.
-    let words = map string_bytes c.args.words.now in
+    let words = map string_bytes c.args.words.now.items in
     let widths = held_widths held in
     let pages = pages_meant held words in
     elim c.match-ending_of.branch [
