@@ -1,5 +1,5 @@
 -- The lines behind the present one, by the next of them.
-use Rattle.std.proofs.Common.{◌≡◌, ◌≢◌, ℕ, zero, suc, arith, ◌+◌, ◌-◌, ◌<◌, List, [], ◌∷◌, take, Bool, true, false, Option, Some, None, Result, Ok, Err, refl, sym, ap, ◌∙◌}
+use Rattle.std.proofs.Common.{◌≡◌, ◌≢◌, ℕ, ◌+◌, ◌-◌, List, [], ◌∷◌, take, Bool, true, false, Option, Some, None, Result, Ok, Err, refl, sym, ap, ◌∙◌}
 use Rattle.std.specs.Prelude.{◌==◌, if◌then◌else◌}
 use mathlib.Core.Bool.{false≢true}
 use Rattle.std.specs.Result.{IsErr, IsErrAnd}
@@ -14,7 +14,7 @@ use Rattle.kcat_eyes.specs.declared.find.Find.{Find}
 use Rattle.kcat_eyes.specs.declared.find.Find.TheVariants as finds
 use Rattle.kcat_eyes.specs.declared.state.State.TheVariants.{NewLine}
 use Rattle.kcat_eyes.specs.declared.fault.EyeFault.{EyeFault}
-use Rattle.kcat_eyes.specs.Eyes.{Codes, Sight, Look, Glance, Gives, Spells, Invalid, Nothing, in_line, in_lines, still_read, behind_line, next, looked, or_eye_fault, is_nothing, last_needed, needed_behind_line, needed_line}
+use Rattle.kcat_eyes.specs.Eyes.{Codes, Sight, Look, Glance, Gives, Spells, Invalid, Nothing, in_line, in_lines, still_read, behind_line, next, looked, is_nothing, last_needed, needed_behind_line, needed_line}
 use Rattle.kcat_eyes.specs.Finds.{glance_of}
 use Rattle.kcat_eyes.specs.Sights.{eye_cause, IsLine, EndsAtLine}
 

@@ -66,10 +66,7 @@ impl Eyes {
         ensures held { F.held files.new ≡ F.held files.old }
         ensures counted { Counts open_cause result (F.faults files.old) (F.faults files.new) }
     {
-        let lines = match Lines::open(alloc, files, name, coding) {
-            Ok(lines) => lines,
-            Err(fault) => return Err(fault),
-        };
+        let lines = Lines::open(alloc, files, name, coding)?;
         let present = Present {
             line: None,
             at: 0,
@@ -136,6 +133,7 @@ impl Eyes {
     {
         let mut found = find(&self.present, codes);
         while is_nothing(found) {
+            // The number of a line is bounded, so the loop ends.
             let _line_no = self.lines.line_no();
             if !turn(&mut self.present, &mut self.lines, self.ends, files)? {
                 return Ok(Seen::End);

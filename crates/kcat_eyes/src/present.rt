@@ -2,11 +2,10 @@
 
 ghost use Rattle.std.specs.Prelude.{◌≡◌, ◌≢◌, ◌≤◌, length, drop, true, false, Bool, Result, Err, OnErr, IfOk, IsSome, is_err};
 ghost use Rattle.tok_lists.specs.Names.{KeepsNumbers};
-ghost use Rattle.ts_outside.specs.Agreement.{Counts};
+ghost use Rattle.ts_outside.specs.Agreement.{Agrees, Counts};
 ghost use Rattle.ts_outside.specs.Reading.{KeepsOthers};
-ghost use Rattle.input_codings.specs.Reading.{unread};
-ghost use Rattle.ts_outside.specs.Agreement.{Agrees};
 ghost use Rattle.input_codings.specs.Lines.{Unread};
+ghost use Rattle.input_codings.specs.Reading.{unread};
 ghost use Rattle.kcat_eyes.specs.Eyes.{Look, Sight, in_line as what_is_in_line, looked, named, eye_fault as the_eye_fault};
 ghost use Rattle.kcat_eyes.specs.Finds.{codes_by, glance_of, IsWithin};
 ghost use Rattle.kcat_eyes.specs.Sights.{line_in, eye_cause, sight_in, IsSeen, Turns, TurnsLine, CountsTurn};
