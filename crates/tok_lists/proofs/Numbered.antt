@@ -6,7 +6,8 @@ use Rattle.std.proofs.lemmas.List.Quantifiers.{position-Some}
 use Rattle.std.proofs.lemmas.Map.Keys.{apart_from_distinct}
 use Rattle.std.specs.List.{IsDistinct}
 use Rattle.tok_lists.specs.declared.spelling.Spelling.{Spelling}
-use Rattle.tok_lists.specs.Same.{is_same, is_same-decides}
+use Rattle.tok_lists.specs.Same.{is_same}
+use Rattle.tok_lists.specs.Equality.{is_same-decides}
 use Rattle.tok_lists.specs.Names.{number_in, is_known, with_name, KeepsNumbers, HaveOneNumberEach}
 
 itself : (s : Spelling) → is_same s s ≡ true

@@ -28,9 +28,9 @@ numbered names spelling =
     if not (is_known names spelling) && nat_le most_names (length names) then Err NamesFull
     else Ok (number_in names spelling)
 
-abbrev pub cause_of : NamesFault → Cause
-cause_of NamesFull = Determined
-cause_of NoMemory = Free
+abbrev pub names_cause : NamesFault → Cause
+names_cause NamesFull = Determined
+names_cause NoMemory = Free
 
 -- no spelling has two numbers
 abbrev pub HaveOneNumberEach : List Spelling → Type 0

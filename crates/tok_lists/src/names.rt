@@ -4,7 +4,7 @@ ghost use Rattle.std.specs.Prelude.{◌≡◌, ◌<◌, ◌≤◌, [], length, m
 ghost use Rattle.std.specs.List.{IsDistinct};
 ghost use Rattle.ts_outside.specs.Agreement.{Agrees};
 ghost use Rattle.tok_lists.specs.Same.{is_same};
-ghost use Rattle.tok_lists.specs.Names.{number_in, with_name, numbered, cause_of, AreFewAndDistinct, KeepsNumbers, HaveOneNumberEach};
+ghost use Rattle.tok_lists.specs.Names.{number_in, with_name, numbered, names_cause, AreFewAndDistinct, KeepsNumbers, HaveOneNumberEach};
 ghost use Rattle.tok_lists.specs.StartNames.{start_names, control_word};
 
 use crate::fault::NamesFault;
@@ -100,7 +100,7 @@ fn number_of(
     sought: &mut Spelling,
 ) -> Result<NameNo, NamesFault>
     requires { AreFewAndDistinct spellings.old.keys }
-    ensures number { Agrees (λ n. n.0) cause_of result (numbered spellings.old.keys sought.old) }
+    ensures number { Agrees (λ n. n.0) names_cause result (numbered spellings.old.keys sought.old) }
     ensures ok { OnOk result (spellings.new.keys ≡ with_name spellings.old.keys sought.old) }
     ensures err { OnErr result (spellings.new.keys ≡ spellings.old.keys) }
     ensures spelt { IfOk result (λ n. slice_get spellings.new.keys n.0 ≡ Some sought.old) }
@@ -137,7 +137,7 @@ impl Names {
     /// comes exactly where it is new and 50,000 names are there. Refused, it leaves the names as
     /// they were.
     pub fn intern(&mut self, active: bool, chars: &[Char]) -> Result<NameNo, NamesFault>
-        ensures number { Agrees (λ n. n.0) cause_of result (numbered self.old (record { active = active; chars = chars.now })) }
+        ensures number { Agrees (λ n. n.0) names_cause result (numbered self.old (record { active = active; chars = chars.now })) }
         ensures ok { OnOk result (self.new ≡ with_name self.old (record { active = active; chars = chars.now })) }
         ensures err { OnErr result (self.new ≡ self.old) }
         ensures spelt { IfOk result (λ n. slice_get self.new n.0 ≡ Some (record { active = active; chars = chars.now })) }

@@ -4,7 +4,8 @@ ghost use Rattle.std.specs.Prelude.{◌++◌};
 ghost use Rattle.std.specs.Hash as fed;
 ghost use Rattle.std.specs.Cmp.{partial_equiv_from_equiv};
 ghost use Rattle.std.proofs.Common.{ap};
-ghost use Rattle.tok_lists.specs.Same.{is_same, is_same-equiv, is_same-decides};
+ghost use Rattle.tok_lists.specs.Same.{is_same};
+ghost use Rattle.tok_lists.specs.Equality.{is_same-equiv, is_same-decides};
 
 use crate::lists::Chars;
 use jis_codes::Char;
@@ -23,7 +24,7 @@ impl PartialEq for Spelling {
 
     ghost laws = { partial_equiv_from_equiv is_same-equiv };
 
-    #[tactic(auto, using(crate::specs::Same::same_chars))]
+    #[tactic(auto, using(crate::proofs::Same::same_chars))]
     fn eq(&self, other: &Spelling) -> bool {
         self.active == other.active && self.chars.as_slice() == other.chars.as_slice()
     }

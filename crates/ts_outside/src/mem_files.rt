@@ -26,7 +26,7 @@ struct Seat {
     place: usize,
 }
 
-/// Files in memory, for tests. Of equal names the first counts. Read number k, from 0, gives at
+/// Files in memory. Of equal names the first counts. Read number k, from 0, gives at
 /// most `cuts[k mod len]` bytes, but at least one; where there are no cuts it gives as many as
 /// there are and as the buffer has room for. Calls of `open` and `read` are numbered together from
 /// 0, and those whose numbers are in `fails` answer `Failed`.

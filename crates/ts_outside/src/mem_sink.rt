@@ -9,7 +9,7 @@ use crate::sink::{Put, Sink};
 use std::alloc::Global;
 use std::marker::Model;
 
-/// A sink that keeps its bytes in memory, for tests. Put number k, from 0, takes at most
+/// A sink that keeps its bytes in memory. Put number k, from 0, takes at most
 /// `cuts[k mod len]` bytes, but at least one; where there are no cuts it takes the whole piece.
 /// Puts whose numbers are in `fails` answer `Failed`.
 #[derive(Drop)]

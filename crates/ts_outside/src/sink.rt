@@ -1,6 +1,6 @@
 //! Sinks to write to.
 
-ghost use Rattle.std.specs.Prelude.{◌≡◌, ◌<◌, ℕ, List, Option, length, OnOk, OnErr};
+ghost use Rattle.std.specs.Prelude.{◌≡◌, ◌≢◌, ◌<◌, ℕ, List, Option, length, OnOk, OnErr};
 ghost use Rattle.ts_outside.specs.Agreement.{Counts};
 ghost use Rattle.ts_outside.specs.Gaining.{Takes, CountsPut, Gained, GainedPart, put_cause};
 
@@ -42,11 +42,12 @@ pub trait Sink {
 }
 
 /// Puts all bytes. After a fault the sink holds what it held and a prefix of the bytes that isn't
-/// all of them.
+/// all of them. Every answer but `Failed` leaves the count of faults.
 pub fn put_all<S: Sink>(sink: &mut S, bytes: &[u8]) -> Result<(), PutFault>
     ensures all { OnOk result (Gained (S.held sink.old) (S.held sink.new) bytes.now) }
     ensures part { OnErr result (GainedPart (S.held sink.old) (S.held sink.new) bytes.now) }
     ensures counted { Counts put_cause result (S.faults sink.old) (S.faults sink.new) }
+    ensures quiet { result ≢ Err PutFault.Failed → S.faults sink.new ≡ S.faults sink.old }
 {
     let mut done = 0;
     while done < bytes.len() {

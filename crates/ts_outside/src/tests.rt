@@ -104,9 +104,11 @@ fn files_of_the_disk(rt: HostRuntime) -> Result<(), Fail> {
     fs::write(&rt, "outside.txt", b"abc")?;
     let name = FileName::new(rt.alloc(), b"outside.txt")?;
     let absent = FileName::new(rt.alloc(), b"absent.txt")?;
+    let through = FileName::new(rt.alloc(), b"outside.txt/x")?;
     let alloc = rt.alloc();
     let mut files = DiskFiles::new(rt.clone()?, alloc);
     assert_eq!(rt; files.open(&absent), Opened::Missing);
+    assert_eq!(rt; files.open(&through), Opened::Failed);
     let Opened::Found(file) = files.open(&name) else {
         return Err(Fail::from("not found"));
     };
