@@ -156,10 +156,10 @@ CountsFiles (outcomes.SourceFault fault) old new = new ≡ old
 CountsFiles outcomes.Usage old new = new ≡ old
 CountsFiles outcomes.SinkFault old new = new ≡ old
 
--- The count of one of the two sinks rises where a put failed, and else only where memory ran out.
+-- The count of one of the two sinks rises where a put failed, and no count else.
 abbrev pub CountsSinks : Outcome → ℕ → ℕ → ℕ → ℕ → Type 0
 CountsSinks outcomes.SinkFault out_old out_new report_old report_new = (Rose out_old out_new × (report_new ≡ report_old)) ⊎ ((out_new ≡ out_old) × Rose report_old report_new)
-CountsSinks outcomes.NoMemory out_old out_new report_old report_new = (out_old ≤ out_new) × (report_old ≤ report_new)
+CountsSinks outcomes.NoMemory out_old out_new report_old report_new = (out_new ≡ out_old) × (report_new ≡ report_old)
 CountsSinks outcomes.Done out_old out_new report_old report_new = (out_new ≡ out_old) × (report_new ≡ report_old)
 CountsSinks (outcomes.SourceFault fault) out_old out_new report_old report_new = (out_new ≡ out_old) × (report_new ≡ report_old)
 CountsSinks outcomes.Usage out_old out_new report_old report_new = (out_new ≡ out_old) × (report_new ≡ report_old)
