@@ -1,10 +1,11 @@
 -- The pages of marks that a DVI file means (TeX: The Program, sections 585 to 586): a second pass over the commands of each
 -- page, with the widths of characters and the positions.
-use Rattle.std.specs.Prelude.{ℕ, ◌+◌, List, [], ◌∷◌, ◌++◌, Result, Ok, Err, Option, Some, None, ℤ, pos, ◌+ℤ◌, neg_ℤ, int_le, Bool, ◌&&◌, if◌then◌else◌, get_or}
+use Rattle.std.specs.Prelude.{ℕ, ◌+◌, List, [], ◌∷◌, ◌++◌, Result, Ok, Err, Option, Some, None, ℤ, pos, neg_ℤ, int_le, Bool, ◌&&◌, if◌then◌else◌, get_or}
 use Rattle.ts_geometry.specs.declared.measure.Sp.{Sp}
 use Rattle.ts_geometry.specs.declared.measure.Point.{Point}
 use Rattle.ts_geometry.specs.declared.direction.Dir.{Dir}
-use Rattle.ts_geometry.specs.declared.direction.Dir.TheVariants.{Yoko, Tate, Dtou}
+use Rattle.ts_geometry.specs.declared.direction.Dir.TheVariants.{Yoko}
+use Rattle.ts_geometry.specs.Directions.{sp, point, step}
 use Rattle.ts_outside.specs.Agreement.{◌>>=◌}
 use Rattle.dvi_code.specs.declared.fault.DviKind.{DviKind}
 use Rattle.dvi_code.specs.declared.fault.DviKind.TheVariants as kinds
@@ -34,25 +35,15 @@ pub record Pen : Type 0 where
   pub marks : List Mark
 
 abbrev pub spot : ℤ → ℤ → Dir → Spot
-spot x y dir = record { at = record { x = record { 0 = x }; y = record { 0 = y } }; dir = dir }
+spot x y dir = record { at = point x y; dir = dir }
 
 -- the pen at bop
 abbrev pub clean : Pen
 clean = record { spot = spot (pos 0) (pos 0) Yoko; saved = []; chosen = None; marks = [] }
 
--- a step along and a step across in a direction: yoko goes right and down, tate down and left, dtou up and right
-abbrev pub to_the_right : Dir → ℤ → ℤ → ℤ
-to_the_right Yoko along across = along
-to_the_right Tate along across = neg_ℤ across
-to_the_right Dtou along across = across
-
-abbrev pub downwards : Dir → ℤ → ℤ → ℤ
-downwards Yoko along across = across
-downwards Tate along across = along
-downwards Dtou along across = neg_ℤ along
-
+-- so far along the direction, and so far across it
 abbrev pub stepped : Spot → ℤ → ℤ → Spot
-stepped s along across = spot (s.at.x.0 +ℤ to_the_right s.dir along across) (s.at.y.0 +ℤ downwards s.dir along across) s.dir
+stepped s along across = record { at = step s.at s.dir (sp along) (sp across); dir = s.dir }
 
 abbrev pub is_in_range : ℤ → Bool
 is_in_range z = int_le (neg_ℤ (pos 2147483647)) z && int_le z (pos 2147483647)

@@ -12,11 +12,7 @@ use crate::cell::Cell;
 fn cell_at(row: u32, cell: u32) -> Option<Cell>
     ensures { result ≡ the_cell_at row cell }
 {
-    if 1 <= row && row <= 94 && 1 <= cell && cell <= 94 {
-        Cell::new(row as u8, cell as u8)
-    } else {
-        None
-    }
+    Cell::new(u8::try_from(row).ok()?, u8::try_from(cell).ok()?)
 }
 
 /// The first of the two rows that have this lead byte in Shift_JIS.

@@ -17,6 +17,13 @@ badness-great_shortfall = refl
 badness-great_shortfall_little_stretch : badness 7230585 (pos 1663496) ≡ 10000
 badness-great_shortfall_little_stretch = refl
 
+-- the greatest ratio that counts, and the next one
+badness-greatest_ratio : badness 1290 (pos 297) ≡ 8189
+badness-greatest_ratio = refl
+
+badness-next_ratio : badness 1291 (pos 297) ≡ 10000
+badness-next_ratio = refl
+
 scale-ten_points : scale (pos 917504) 655360 ≡ pos 573440
 scale-ten_points = refl
 
@@ -25,6 +32,13 @@ scale-below_zero = refl
 
 decimal-four : decimal (4 ∷ []) ≡ 26214
 decimal-four = refl
+
+-- 2^-17 has 17 digits, and is rounded up
+decimal-half_unit : decimal (0 ∷ 0 ∷ 0 ∷ 0 ∷ 0 ∷ 7 ∷ 6 ∷ 2 ∷ 9 ∷ 3 ∷ 9 ∷ 4 ∷ 5 ∷ 3 ∷ 1 ∷ 2 ∷ 5 ∷ []) ≡ 1
+decimal-half_unit = refl
+
+decimal-below_half_unit : decimal (0 ∷ 0 ∷ 0 ∷ 0 ∷ 0 ∷ 7 ∷ 6 ∷ 2 ∷ 9 ∷ 3 ∷ 9 ∷ 4 ∷ 5 ∷ 3 ∷ 1 ∷ 2 ∷ []) ≡ 0
+decimal-below_half_unit = refl
 
 share-half : share (pos 1) (pos 1) (pos 2) ≡ pos 1
 share-half = refl
