@@ -10,7 +10,7 @@ use Rattle.input_codings.specs.declared.coding.Coding.{Coding}
 use Rattle.input_codings.specs.declared.item.State.{State}
 use Rattle.input_codings.specs.declared.item.Item.{Item}
 use Rattle.input_codings.specs.declared.item.Item.TheVariants.{Character, Escape}
-use Rattle.input_codings.specs.Decoding.{item, item_then, decoded_from, in_front, in_front_of, length_of, is_space, trimmed}
+use Rattle.input_codings.specs.Decoding.{item, item_then, decoded_from, in_front, before_trimmed, length_of, is_space, trimmed}
 use Rattle.input_codings.specs.Lines.{closed}
 
 -- the characters so far, and then those that follow
@@ -72,15 +72,15 @@ trimmed_space (suc n) = rw (trimmed_space n) refl
 
 pub trimmed_spaces : (cs : List Char) (n : ℕ) → trimmed (cs ++ replicate n (One 32)) ≡ trimmed cs
 trimmed_spaces [] n = trimmed_space n
-trimmed_spaces (c ∷ cs) n = ap (in_front_of c) (trimmed_spaces cs n)
+trimmed_spaces (c ∷ cs) n = ap (before_trimmed c) (trimmed_spaces cs n)
 
 pub trimmed_push : (cs : List Char) (c : Char) → is_space c ≡ false → trimmed (cs ++ c ∷ []) ≡ cs ++ c ∷ []
 trimmed_push [] c other = rw other refl
-trimmed_push (d ∷ cs) c other = ap (in_front_of d) (trimmed_push cs c other) ∙ in_front_push d cs c
+trimmed_push (d ∷ cs) c other = ap (before_trimmed d) (trimmed_push cs c other) ∙ before_push d cs c
   where
-    in_front_push : (d : Char) (cs : List Char) (c : Char) → in_front_of d (cs ++ c ∷ []) ≡ d ∷ (cs ++ c ∷ [])
-    in_front_push d [] c = refl
-    in_front_push d (e ∷ cs) c = refl
+    before_push : (d : Char) (cs : List Char) (c : Char) → before_trimmed d (cs ++ c ∷ []) ≡ d ∷ (cs ++ c ∷ [])
+    before_push d [] c = refl
+    before_push d (e ∷ cs) c = refl
 
 pub is_one_space : (c : Char) → is_space c ≡ true → c ≡ One 32
 is_one_space (One b) space = ap (λ (n : ℕ). One n) (let e : b ≡ 32 = grind (arith, nat_tests) in e)

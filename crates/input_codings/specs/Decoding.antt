@@ -28,6 +28,7 @@ pair Sjis number = cell_of shift_jis number
 abbrev pub japanese : Option Kuten → Option Item
 japanese cell = option_map (λ k. Character (Ja k)) cell
 
+-- the character of two bytes in a state; in one-byte state a byte below 128 is one by itself
 abbrev pub character : Coding → State → ℕ → ℕ → Option Item
 character coding TwoByte first second = japanese (cell_of jis (two_bytes first second))
 character coding OneByte first second =
@@ -38,10 +39,12 @@ abbrev pub item : Coding → State → ℕ → ℕ → ℕ → Option Item
 item coding state first second third =
     if first == 27 then option_map (λ s. Escape s) (escape second third) else character coding state first second
 
+-- how many bytes a character has
 abbrev pub length_of : Char → ℕ
 length_of (One b) = 1
 length_of (Ja k) = 2
 
+-- a character in front of those that follow, if they aren't refused
 abbrev pub in_front : Char → Result (List Char) ℕ → Result (List Char) ℕ
 in_front c (Ok cs) = Ok (c ∷ cs)
 in_front c (Err place) = Err place
@@ -68,11 +71,12 @@ abbrev pub is_space : Char → Bool
 is_space (One b) = b == 32
 is_space (Ja k) = false
 
-abbrev pub in_front_of : Char → List Char → List Char
-in_front_of c [] = if is_space c then [] else c ∷ []
-in_front_of c (d ∷ ds) = c ∷ d ∷ ds
+-- a character in front of trimmed ones: a character 32 with none behind it goes
+abbrev pub before_trimmed : Char → List Char → List Char
+before_trimmed c [] = if is_space c then [] else c ∷ []
+before_trimmed c (d ∷ ds) = c ∷ d ∷ ds
 
 -- without the characters 32 at the end
 abbrev pub trimmed : List Char → List Char
 trimmed [] = []
-trimmed (c ∷ cs) = in_front_of c (trimmed cs)
+trimmed (c ∷ cs) = before_trimmed c (trimmed cs)

@@ -29,6 +29,7 @@ characters coding n piece =
     else (if nat_lt most_bytes (length piece.bytes) then Err faults.LineTooLong
     else closed (decoded coding (text_of piece.ended piece.bytes)))
 
+-- the same of a piece that may not be there
 abbrev pub line_of : Coding → ℕ → Option Piece → Result (Option (List Char)) LineFault
 line_of coding n None = Ok None
 line_of coding n (Some piece) = characters coding n piece >>= (λ cs. Ok (Some cs))
@@ -43,9 +44,11 @@ pub record Unread : Type 0 where
   pub line_no : ℕ
   pub bytes : List ℕ
 
+-- what is left behind the next line
 abbrev pub past_line : Unread → Unread
 past_line u = record { coding = u.coding; line_no = u.line_no + 1; bytes = after_ten u.bytes }
 
+-- the first of the pieces that are left, as the next line
 abbrev pub first_of : Unread → List Piece → Result (Option (List Char) × Unread) LineFault
 first_of u [] = Ok (None, u)
 first_of u (p ∷ ps) = characters u.coding (u.line_no + 1) p >>= (λ cs. Ok (Some cs, past_line u))
@@ -59,6 +62,7 @@ abbrev pub past_lines : ℕ → List ℕ → List ℕ
 past_lines zero bytes = bytes
 past_lines (suc n) bytes = after_ten (past_lines n bytes)
 
+-- the bytes determine each fault but a failed read and want of memory
 abbrev pub line_cause : LineFault → Cause
 line_cause faults.TooManyLines = Determined
 line_cause faults.LineTooLong = Determined

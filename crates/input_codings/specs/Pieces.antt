@@ -11,6 +11,7 @@ abbrev pub byte_then : ℕ → List Piece → List Piece
 byte_then b [] = record { bytes = b ∷ []; ended = false } ∷ []
 byte_then b (p ∷ ps) = record { bytes = b ∷ p.bytes; ended = p.ended } ∷ ps
 
+-- a byte 10 ends a piece
 abbrev pub pieces : List ℕ → List Piece
 pieces [] = []
 pieces (b ∷ bs) = if b == 10 then record { bytes = []; ended = true } ∷ pieces bs else byte_then b (pieces bs)

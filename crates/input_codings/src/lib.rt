@@ -13,7 +13,7 @@ mod source;
 
 pub use coding::Coding;
 pub use fault::{LineFault, OpenFault};
-pub use laws::lines_follow;
+pub use laws::{lines_follow, spellings_are_decoded};
 pub use line::Line;
 pub use lines::Lines;
 

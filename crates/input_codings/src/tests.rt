@@ -1,3 +1,5 @@
+//! Lines of files in memory, and their faults.
+
 use crate::{Coding, Line, LineFault, Lines, OpenFault};
 use jis_codes::{Cell, Char};
 use std::alloc::Global;

@@ -4,7 +4,8 @@ use Rattle.ts_geometry.specs.declared.fault.BadKind.TheVariants.{Truncated, Leng
 use Rattle.ts_geometry.specs.declared.fault.MetricFault.TheVariants.{Bad, NotBuilt}
 use Rattle.jfm_load.specs.Words.{halfword, word}
 use Rattle.jfm_load.specs.Parts.{lengths_of, contradict, lengths_in, design_kind, is_jis, char_type_of, first_type_kind, type_kind, char_info_of, info_kind, fix_kind, zero_kind}
-use Rattle.jfm_load.specs.Metrics.{Metric, metric_of, class_of, measures_of, param_of, scaled}
+use Rattle.jfm_load.specs.Metrics.{Metric, metric_of, class_of, measures_of, param_of}
+use Rattle.ts_geometry.specs.Numbers.{scale}
 
 abbrev jp10 : List ℕ
 jp10 = 0 ∷ 11 ∷ 0 ∷ 1 ∷ 0 ∷ 24 ∷ 0 ∷ 2 ∷ 0 ∷ 0 ∷ 0 ∷ 0 ∷ 0 ∷ 2 ∷ 0 ∷ 2 ∷ 0 ∷ 2 ∷ 0 ∷ 1 ∷ 0 ∷ 0 ∷ 0 ∷ 0 ∷ 0 ∷ 0 ∷ 0 ∷ 6 ∷ 0 ∷ 0 ∷ 0 ∷ 0 ∷ 0 ∷ 160 ∷ 0 ∷ 0 ∷ 0 ∷ 0 ∷ 0 ∷ 0 ∷ 1 ∷ 17 ∷ 0 ∷ 0 ∷ 0 ∷ 0 ∷ 0 ∷ 0 ∷ 0 ∷ 16 ∷ 0 ∷ 0 ∷ 0 ∷ 0 ∷ 0 ∷ 0 ∷ 0 ∷ 14 ∷ 0 ∷ 0 ∷ 0 ∷ 0 ∷ 0 ∷ 0 ∷ 0 ∷ 2 ∷ 0 ∷ 0 ∷ 0 ∷ 0 ∷ 0 ∷ 0 ∷ 0 ∷ 0 ∷ 0 ∷ 0 ∷ 0 ∷ 0 ∷ 0 ∷ 0 ∷ 0 ∷ 0 ∷ 0 ∷ 0 ∷ 0 ∷ 0 ∷ 0 ∷ 0 ∷ 0 ∷ 16 ∷ 0 ∷ 0 ∷ 0 ∷ 16 ∷ 0 ∷ 0 ∷ []
@@ -82,8 +83,8 @@ measures_at_ten_points = refl
 class_of_a_cell : class_of full_width (record { row = 4; cell = 2 }) ≡ 0
 class_of_a_cell = refl
 
-zw_and_zh : (scaled (param_of full_width 6) 655360 ≡ pos 655360) × (scaled (param_of full_width 5) 655360 ≡ pos 655360)
+zw_and_zh : (scale (param_of full_width 6) 655360 ≡ pos 655360) × (scale (param_of full_width 5) 655360 ≡ pos 655360)
 zw_and_zh = (refl, refl)
 
-a_negative_measure_is_rounded_down : (scaled (negsuc 131071) 655360 ≡ negsuc 81919) × (scaled (negsuc 131071) 1 ≡ negsuc 0)
+a_negative_measure_is_rounded_down : (scale (negsuc 131071) 655360 ≡ negsuc 81919) × (scale (negsuc 131071) 1 ≡ negsuc 0)
 a_negative_measure_is_rounded_down = (refl, refl)

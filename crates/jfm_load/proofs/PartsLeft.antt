@@ -1,5 +1,5 @@
 -- What a table's reader has left to do gives what its start gave.
-use Rattle.std.proofs.Common.{◌≡◌, ℕ, zero, suc, ◌+◌, ◌*◌, ◌-◌, ◌≤◌, ◌<◌, List, [], ◌∷◌, ◌++◌, Option, Some, None, Result, Ok, Err, arith, refl, append_assoc, append-nil, ◌∙◌}
+use Rattle.std.proofs.Common.{◌≡◌, ℕ, zero, suc, ◌+◌, ◌*◌, ◌-◌, ◌≤◌, ◌<◌, List, [], ◌∷◌, ◌++◌, map, Option, Some, None, Result, Ok, Err, arith, refl, append_assoc, append-nil, ◌∙◌}
 use Rattle.ts_geometry.specs.declared.fault.BadKind.{BadKind}
 use Rattle.ts_geometry.specs.declared.fault.MetricFault.{MetricFault}
 use Rattle.ts_geometry.specs.declared.fault.MetricFault.TheVariants.{Bad}
@@ -7,8 +7,17 @@ use Rattle.jfm_load.specs.declared.tables.CharType.{CharType}
 use Rattle.ts_outside.specs.Agreement.{AgreesFault}
 use Rattle.jfm_load.specs.Metrics.{cause}
 use Rattle.jfm_load.specs.Words.{word, words}
-use Rattle.jfm_load.specs.Left.{types_left, left, unchecked}
-use Rattle.jfm_load.specs.Parts.{char_type_of, type_kind}
+use Rattle.jfm_load.specs.Left.{left}
+use Rattle.jfm_load.specs.Parts.{checked, char_type_of, type_kind, later_type_kinds}
+
+-- what is left of the character types after the code `before`, where these are read
+abbrev pub types_left : List ℕ → ℕ → ℕ → ℕ → ℕ → List CharType → Result (List CharType) MetricFault
+types_left file i end before ec types =
+    checked i (later_type_kinds before ec (words file i (end - i))) (types ++ map char_type_of (words file i (end - i)))
+
+-- what is left of a check, which gives this value
+abbrev pub unchecked : {A : Type 0} → (ℕ → Option BadKind) → List ℕ → ℕ → ℕ → A → Result A MetricFault
+unchecked kind file i end value = checked i (map kind (words file i (end - i))) value
 
 pub words-more : (file : List ℕ) (i end : ℕ) → i < end → words file i (end - i) ≡ word file i ∷ words file (i + 1) (end - (i + 1))
 words-more file i end h =

@@ -1,10 +1,12 @@
 -- The metric that a JFM spells, or its first fault, and what a metric says of its characters (the JFM specification).
-use Rattle.std.specs.Prelude.{ℕ, ◌+◌, ◌*◌, ◌-◌, ℤ, pos, ◌*ℤ◌, Bool, List, [], ◌∷◌, map, slice_index_or, Result, Ok, ◌==◌, if◌then◌else◌}
-use Rattle.std.specs.Int.{int_div_euclid}
+use Rattle.std.specs.Prelude.{ℕ, ◌-◌, ℤ, pos, Bool, List, [], ◌∷◌, map, slice_index_or, Result, Ok, ◌==◌, if◌then◌else◌}
 use Rattle.ts_geometry.specs.declared.fault.MetricFault.{MetricFault}
 use Rattle.ts_geometry.specs.declared.fault.MetricFault.TheVariants.{Bad, NotBuilt, NoMemory}
 use Rattle.ts_geometry.specs.declared.measure.Measures.{Measures}
+use Rattle.ts_geometry.specs.Numbers.{scale}
 use Rattle.jis_codes.specs.Kuten.{Kuten}
+use Rattle.jis_codes.specs.Spellings.{jis}
+use Rattle.jis_codes.specs.Numbers.{number_of}
 use Rattle.ts_outside.specs.Agreement.{◌>>=◌, Cause, Determined, Free}
 use Rattle.jfm_load.specs.declared.tables.CharType.{CharType}
 use Rattle.jfm_load.specs.declared.tables.CharInfo.{CharInfo}
@@ -62,35 +64,28 @@ cause (Bad kind at) = Determined
 cause NotBuilt = Determined
 cause NoMemory = Free
 
--- the JIS code of a cell
-abbrev pub jis_of : Kuten → ℕ
-jis_of k = 256 * (k.row + 32) + (k.cell + 32)
-
 -- the class of a code: 0 where it isn't listed
 abbrev pub class_in : List CharType → ℕ → ℕ
 class_in [] code = 0
 class_in (t ∷ ts) code = if t.code == code then t.class else class_in ts code
 
+-- the class of a cell
 abbrev pub class_of : Metric → Kuten → ℕ
-class_of m cell = class_in m.char_types (jis_of cell)
+class_of m cell = class_in m.char_types (number_of jis cell)
 
--- a fix word at a size of so many scaled points, rounded down
-abbrev pub scaled : ℤ → ℕ → ℤ
-scaled f z = int_div_euclid (f *ℤ pos z) (pos 1048576)
-
--- the measures of a class, or of none
 abbrev pub no_measures : FixMeasures
 no_measures = record { width = pos 0; height = pos 0; depth = pos 0 }
 
+-- the measures of a class, as fix words
 abbrev pub fix_measures_of : Metric → ℕ → FixMeasures
 fix_measures_of m class = slice_index_or m.classes class no_measures
 
--- the same at a size
+-- the measures of a class at a size of so many scaled points
 abbrev pub measures_of : Metric → ℕ → ℕ → Measures
 measures_of m class z = let f = fix_measures_of m class in record {
-  wd = record { 0 = scaled f.width z };
-  ht = record { 0 = scaled f.height z };
-  dp = record { 0 = scaled f.depth z };
+  wd = record { 0 = scale f.width z };
+  ht = record { 0 = scale f.height z };
+  dp = record { 0 = scale f.depth z };
 }
 
 -- a parameter, counted from 1: 0 where there is none

@@ -1,11 +1,13 @@
 -- The lengths of a JFM and its parts, each with what is wrong in each of its words (the JFM specification).
-use Rattle.std.specs.Prelude.{ℕ, ◌+◌, ◌*◌, ◌-◌, ◌/◌, ◌%◌, ℤ, Bool, List, [], ◌∷◌, length, map, Option, Some, None, Result, Ok, Err, ◌==◌, nat_lt, nat_le, ◌&&◌, ◌||◌, not, if◌then◌else◌}
+use Rattle.std.specs.Prelude.{ℕ, ◌+◌, ◌*◌, ◌-◌, ◌/◌, ◌%◌, ℤ, Bool, List, [], ◌∷◌, length, map, Option, Some, None, is_some, Result, Ok, Err, ◌==◌, nat_lt, nat_le, ◌&&◌, ◌||◌, not, if◌then◌else◌}
 use Rattle.std.specs.Int.{cast_signed, w32}
 use Rattle.ts_geometry.specs.declared.fault.BadKind.{BadKind}
 use Rattle.ts_geometry.specs.declared.fault.BadKind.TheVariants.{Truncated, FixWord, CharType as WrongType, Index}
 use Rattle.ts_geometry.specs.declared.fault.BadKind.TheVariants.{Lengths as WrongLengths}
 use Rattle.ts_geometry.specs.declared.fault.MetricFault.{MetricFault}
 use Rattle.ts_geometry.specs.declared.fault.MetricFault.TheVariants.{Bad, NotBuilt}
+use Rattle.jis_codes.specs.Spellings.{jis}
+use Rattle.jis_codes.specs.Numbers.{cell_of}
 use Rattle.jfm_load.specs.declared.lengths.Lengths.{Lengths}
 use Rattle.jfm_load.specs.declared.tables.CharType.{CharType}
 use Rattle.jfm_load.specs.declared.tables.CharInfo.{CharInfo}
@@ -95,8 +97,8 @@ lengths_in file =
     else (if has_programs (lengths_of file) then Err NotBuilt
     else Ok (lengths_of file))))))
 
--- What words give that begin at that one, each with the kind of its fault if it is bad; or the fault of the first bad one, at
--- its first byte.
+-- What the words from that one on give, each with the kind of its fault if it is bad; or the fault of the first bad one, at its
+-- first byte.
 abbrev pub checked : {A : Type 0} → ℕ → List (Option BadKind) → A → Result A MetricFault
 checked at [] value = Ok value
 checked at (None ∷ kinds) value = checked (at + 1) kinds value
@@ -110,12 +112,9 @@ design_kind w = if nat_lt w 1048576 || nat_le 2147483648 w then Some FixWord els
 abbrev pub design_in : List ℕ → Result ℕ MetricFault
 design_in file = checked (header_start + 1) (design_kind (word file (header_start + 1)) ∷ []) (word file (header_start + 1) / 16)
 
--- a code of JIS X 0208
-abbrev pub is_jis_byte : ℕ → Bool
-is_jis_byte b = nat_le 33 b && nat_le b 126
-
+-- the code of a cell of JIS X 0208
 unfoldable pub is_jis : ℕ → Bool
-is_jis code = is_jis_byte (code / 256) && is_jis_byte (code % 256)
+is_jis code = is_some (cell_of jis code)
 
 -- A character type is a code, a byte 0 and the code's class. The first says that other codes have class 0.
 unfoldable pub char_type_of : ℕ → CharType

@@ -2,20 +2,21 @@
 
 ghost use Rattle.std.specs.Prelude.{◌≡◌, ◌*◌, ◌≤◌, ◌<◌, ◌^◌, length, IsTrue, slice_index_or, pos};
 ghost use Rattle.std.specs.List.{list_all};
+ghost use Rattle.ts_geometry.specs.Numbers.{scale};
 ghost use Rattle.ts_outside.specs.Agreement.{Agrees};
-ghost use Rattle.jfm_load.specs.Metrics.{metric_of, class_of, measures_of, param_of, cause, scaled as scaled_of};
+ghost use Rattle.jfm_load.specs.Metrics.{metric_of, class_of, measures_of, param_of, cause};
 ghost use Rattle.jfm_load.specs.Sound.{IsWithin, is_fix};
 
-use crate::lengths::read_lengths;
+use crate::lengths::{HEADER_START, read_lengths};
 use crate::parts::{
     check_table, read_char_infos, read_char_types, read_design, read_params, read_table,
 };
 use crate::tables::{CharInfo, CharType, class_in};
 use crate::words::word_at;
-use jis_codes::Cell;
+use jis_codes::{Cell, to_jis};
 use std::alloc::Global;
 use std::marker::Model;
-use ts_geometry::{Measures, MetricFault, Sp};
+use ts_geometry::{Measures, MetricFault, Sp, scale};
 
 /// The metric of a Japanese font. Contracts see the metric that its file spells.
 #[derive(Debug, Drop)]
@@ -65,7 +66,7 @@ pub fn read(alloc: Global, bytes: &[u8]) -> Result<Japanese, MetricFault>
     let params = read_params(alloc, bytes, lengths.param_start(), usize::from(lengths.np))?;
     Ok(Japanese {
         is_tate: lengths.id == 9,
-        check_sum: word_at(bytes, 7),
+        check_sum: word_at(bytes, HEADER_START),
         design,
         char_types,
         char_infos,
@@ -76,25 +77,15 @@ pub fn read(alloc: Global, bytes: &[u8]) -> Result<Japanese, MetricFault>
     })
 }
 
-// A fix word at a size in scaled points, rounded down.
-fn scaled(fix: i32, z: u32) -> i64
-    requires fix { IsTrue (is_fix fix) }
-    requires size { z < 2 ^ 23 }
-    ensures value { result ≡ scaled_of fix z }
-    ensures within { IsWithin (16 * z) result }
-{
-    (i64::from(fix) * i64::from(z)).div_euclid(0x10_0000)
-}
-
 // The fix word at that place of a table, at a size in scaled points.
 fn scaled_at(table: &[i32], place: u8, z: u32) -> i64
     requires inside { place < length table.now }
     requires fix { IsTrue (list_all is_fix table.now) }
     requires size { z < 2 ^ 23 }
-    ensures value { result ≡ scaled_of (slice_index_or table.now place (pos 0)) z }
+    ensures value { result ≡ scale (slice_index_or table.now place (pos 0)) z }
     ensures within { IsWithin (16 * z) result }
 {
-    scaled(table[usize::from(place)], z)
+    scale(table[usize::from(place)], z)
 }
 
 impl Japanese {
@@ -110,9 +101,7 @@ impl Japanese {
         ensures value { result ≡ class_of self.now cell }
         ensures in_font { result < length self.now.classes }
     {
-        let row = u16::from(cell.row());
-        let place = u16::from(cell.cell());
-        class_in(&self.char_types, 256 * (row + 32) + (place + 32))
+        class_in(&self.char_types, to_jis(cell) as u16)
     }
 
     /// The measures of a class at a size in scaled points, rounded down.

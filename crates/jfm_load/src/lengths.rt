@@ -9,6 +9,10 @@ ghost use Rattle.jfm_load.specs.Metrics.{cause};
 use crate::words::halfword_at;
 use ts_geometry::{BadKind, MetricFault};
 
+/// Where the header begins, in words: behind the lengths. Its first word is the check sum and its
+/// second the design size.
+pub(crate) const HEADER_START: usize = 7;
+
 /// The lengths of the parts of a JFM, in words, under the names of the JFM specification: `id` is 11
 /// for yoko and 9 for tate, `lf` the length of the file, `bc` and `ec` the first and the last class.
 #[derive(Clone, Copy, Debug)]
@@ -64,7 +68,7 @@ impl Lengths {
         ensures value { result ≡ spec.char_type_start self.now }
         ensures most { result ≤ 2 * 65536 }
     {
-        7 + usize::from(self.lh)
+        HEADER_START + usize::from(self.lh)
     }
 
     pub(crate) fn char_info_start(&self) -> usize

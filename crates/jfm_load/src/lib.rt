@@ -2,13 +2,14 @@
 #![tactic(auto)]
 
 mod japanese;
-pub mod laws;
+mod laws;
 mod lengths;
 mod parts;
 mod tables;
 mod words;
 
 pub use japanese::{Japanese, read};
+pub use laws::a_metric_is_in_its_first_words;
 
 #[cfg(test)]
 mod tests;

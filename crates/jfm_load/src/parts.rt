@@ -8,9 +8,10 @@ ghost use Rattle.jfm_load.specs.Metrics.{cause};
 ghost use Rattle.jfm_load.specs.Words.{words};
 ghost use Rattle.jfm_load.specs.Left.{left};
 
-use crate::lengths::Lengths;
+use crate::lengths::{HEADER_START, Lengths};
 use crate::tables::{CharInfo, CharType, push, table_of};
 use crate::words::{bad, first_byte, first_half, fourth_byte, second_byte, third_byte, word_at};
+use jis_codes::from_jis;
 use std::alloc::Global;
 use ts_geometry::{BadKind, MetricFault};
 
@@ -30,9 +31,9 @@ pub(crate) fn read_design(bytes: &[u8]) -> Result<u32, MetricFault>
     requires { 36 ≤ length bytes.now }
     ensures { Agrees (λ d. d) cause result (spec.design_in bytes.now) }
 {
-    let design = word_at(bytes, 8);
+    let design = word_at(bytes, HEADER_START + 1);
     if let Some(kind) = design_kind(design) {
-        return Err(bad(kind, 8));
+        return Err(bad(kind, HEADER_START + 1));
     }
     Ok(design / 16)
 }
@@ -41,9 +42,7 @@ pub(crate) fn read_design(bytes: &[u8]) -> Result<u32, MetricFault>
 fn is_jis(code: u16) -> bool
     ensures { result ≡ spec.is_jis code }
 {
-    let high = code / 256;
-    let low = code % 256;
-    33 <= high && high <= 126 && 33 <= low && low <= 126
+    from_jis(u32::from(code)).is_some()
 }
 
 #[tactic(auto, unfolding(crate::specs::Parts::char_type_of))]

@@ -6,7 +6,9 @@ use Rattle.std.proofs.lemmas.List.{take_more}
 use Rattle.std.proofs.lemmas.List.Sums.{fold-append}
 use Rattle.std.proofs.Math.Seq.{drop-cons}
 use Rattle.jis_codes.specs.Kuten.{Kuten}
-use Rattle.jfm_load.specs.Metrics.{Metric, jis_of}
+use Rattle.jis_codes.specs.Spellings.{jis}
+use Rattle.jis_codes.specs.Numbers.{number_of}
+use Rattle.jfm_load.specs.Metrics.{Metric}
 use Rattle.ts_job.specs.declared.writer.page.Glyph.{Glyph}
 use Rattle.ts_job.specs.Form.{Form}
 use Rattle.ts_job.specs.Meaning.{width_of, glyphs_from, box_height, font_def, page_of}
@@ -39,7 +41,7 @@ greatest_high before size now is high small = omega (arith, ints, int_max_is bef
 
 -- the glyphs of one character more
 pub glyphs_more : (metric : Metric) (x y wide next : ℤ) (cells : List Kuten) (i : ℕ) (cell : Kuten) (all so_far new : List Glyph) (g : Glyph) → i < length cells → cell ≡ get_or cells i cell → all ≡ so_far ++ glyphs_from metric x y (drop i cells)
-    → g ≡ record { code = jis_of cell; at = record { x = record { 0 = x }; y = record { 0 = y } } } → wide ≡ width_of metric cell → next ≡ x +ℤ wide → new ≡ so_far ++ g ∷ []
+    → g ≡ record { code = number_of jis cell; at = record { x = record { 0 = x }; y = record { 0 = y } } } → wide ≡ width_of metric cell → next ≡ x +ℤ wide → new ≡ so_far ++ g ∷ []
     → all ≡ new ++ glyphs_from metric next y (drop (i + 1) cells)
 glyphs_more metric x y wide next cells i cell all so_far new g lt is whole one width on joined =
     let here : drop i cells ≡ cell ∷ drop (i + 1) cells = drop-here cells i cell lt is in

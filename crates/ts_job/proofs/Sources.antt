@@ -1,16 +1,18 @@
 -- Sources and their fonts, as they are read.
-use Rattle.std.proofs.Common.{◌≡◌, ◌≢◌, ℕ, ◌+◌, ◌/◌, ◌%◌, List, take, Bool, true, false, Option, Some, None, Result, Ok, Err, refl, ap, arith, cond}
+use Rattle.std.proofs.Common.{◌≡◌, ◌≢◌, ℕ, ◌-◌, ◌/◌, ◌%◌, List, take, Bool, true, false, Option, Some, None, Result, Ok, Err, refl, ap, arith, cond}
 use Rattle.std.specs.Prelude.{nat_le}
 use Rattle.std.proofs.lemmas.Bool.Decides.{nat_tests}
 use Rattle.ts_geometry.specs.declared.fault.MetricFault.{MetricFault}
 use Rattle.jis_codes.specs.Kuten.{Kuten, IsKuten}
+use Rattle.jis_codes.specs.Spellings.{jis}
+use Rattle.jis_codes.specs.Numbers.{number_of}
 use Rattle.ts_outside.specs.Agreement.{◌>>=◌, Counts}
 use Rattle.ts_outside.specs.Reading.{Held, bytes_of}
 use Rattle.ts_outside.specs.declared.name.NameFault.TheVariants.{BadName}
 use Rattle.ts_outside.specs.Names.{is_file_name}
 use Rattle.ts_outside.specs.Naming.{named}
 use Rattle.ts_outside.specs.Endings.{with_ending, metric_ending}
-use Rattle.jfm_load.specs.Metrics.{Metric, metric_of, jis_of}
+use Rattle.jfm_load.specs.Metrics.{Metric, metric_of}
 use Rattle.jfm_load.specs.Parts.{is_jis}
 use Rattle.ts_job.specs.declared.fault.FaultKind.TheVariants.{FileMissing, FormNotBuilt}
 use Rattle.ts_job.specs.declared.stop.Stop.{Stop}
@@ -49,29 +51,29 @@ counts_quiet (Err stops.NoMemory) old new quiet same = omega arith
 
 -- ---- widths
 
-jis_byte : (k : Kuten) → IsKuten k → is_jis (jis_of k) ≡ true
+cell_is_jis : (k : Kuten) → IsKuten k → is_jis (number_of jis k) ≡ true
 unfolding is_jis
-jis_byte k there =
-    let high : jis_of k / 256 ≡ k.row + 32 = omega (arith, there.3) in
-    let low : jis_of k % 256 ≡ k.cell + 32 = omega (arith, there.3) in
-    let a : nat_le 33 (k.row + 32) ≡ true = grind (arith, nat_tests, there.0) in
-    let b : nat_le (k.row + 32) 126 ≡ true = grind (arith, nat_tests, there.1) in
-    let c : nat_le 33 (k.cell + 32) ≡ true = grind (arith, nat_tests, there.2) in
-    let d : nat_le (k.cell + 32) 126 ≡ true = grind (arith, nat_tests, there.3) in
-    rw (high, low, a, b, c, d) refl
+cell_is_jis k there =
+    let row : number_of jis k / 256 - 32 ≡ k.row = omega (arith, there.3) in
+    let cell : number_of jis k % 256 - 32 ≡ k.cell = omega (arith, there.3) in
+    let a : nat_le 1 k.row ≡ true = grind (arith, nat_tests, there.0) in
+    let b : nat_le k.row 94 ≡ true = grind (arith, nat_tests, there.1) in
+    let c : nat_le 1 k.cell ≡ true = grind (arith, nat_tests, there.2) in
+    let d : nat_le k.cell 94 ≡ true = grind (arith, nat_tests, there.3) in
+    rw (row, cell, a, b, c, d) refl
 
-width_if_built : (m metric : Metric) (k : Kuten) (test : Bool) → IsKuten k → cond test (Ok m) (Err (stops.Fault FormNotBuilt 0)) ≡ Ok metric → width_in ten_points (jis_of k) (Ok m) ≡ Some (record { 0 = width_of metric k })
+width_if_built : (m metric : Metric) (k : Kuten) (test : Bool) → IsKuten k → cond test (Ok m) (Err (stops.Fault FormNotBuilt 0)) ≡ Ok metric → width_in ten_points (number_of jis k) (Ok m) ≡ Some (record { 0 = width_of metric k })
 width_if_built m metric k true there is =
     let same : m ≡ metric = cc in
-    let jis = jis_byte k there in
-    rw (same, jis) refl
+    let code = cell_is_jis k there in
+    rw (same, code) refl
 width_if_built m metric k false there is = absurd cc
 
-width_read : (r : Result Metric MetricFault) (metric : Metric) (k : Kuten) → IsKuten k → built r ≡ Ok metric → width_in ten_points (jis_of k) r ≡ Some (record { 0 = width_of metric k })
+width_read : (r : Result Metric MetricFault) (metric : Metric) (k : Kuten) → IsKuten k → built r ≡ Ok metric → width_in ten_points (number_of jis k) r ≡ Some (record { 0 = width_of metric k })
 width_read (Err fault) metric k there is = absurd cc
 width_read (Ok m) metric k there is = width_if_built m metric k (is_built m) there is
 
-width_held : (file : Option (List ℕ)) (metric : Metric) (k : Kuten) → IsKuten k → (or_fault FileMissing 1 file >>= λ b. built (metric_of b)) ≡ Ok metric → width_by ten_points (jis_of k) file ≡ Some (record { 0 = width_of metric k })
+width_held : (file : Option (List ℕ)) (metric : Metric) (k : Kuten) → IsKuten k → (or_fault FileMissing 1 file >>= λ b. built (metric_of b)) ≡ Ok metric → width_by ten_points (number_of jis k) file ≡ Some (record { 0 = width_of metric k })
 width_held None metric k there is = absurd cc
 width_held (Some file) metric k there is = width_read (metric_of file) metric k there is
 

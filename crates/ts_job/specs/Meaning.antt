@@ -4,6 +4,8 @@ use Rattle.std.specs.Int.{int_max}
 use Rattle.ts_geometry.specs.declared.fault.MetricFault.{MetricFault}
 use Rattle.ts_geometry.specs.declared.fault.MetricFault.TheVariants.{Bad, NotBuilt, NoMemory as MetricNoMemory}
 use Rattle.jis_codes.specs.Kuten.{Kuten}
+use Rattle.jis_codes.specs.Spellings.{jis}
+use Rattle.jis_codes.specs.Numbers.{number_of}
 use Rattle.ts_outside.specs.Agreement.{◌>>=◌, Cause, Determined, Counted, Free}
 use Rattle.ts_outside.specs.Reading.{Held, bytes_of}
 use Rattle.ts_outside.specs.Endings.{with_ending, metric_ending}
@@ -13,7 +15,7 @@ use Rattle.input_codings.specs.declared.fault.LineFault.TheVariants as lines
 use Rattle.input_codings.specs.declared.fault.OpenFault.{OpenFault}
 use Rattle.input_codings.specs.declared.fault.OpenFault.TheVariants as opens
 use Rattle.input_codings.specs.Lines.{line}
-use Rattle.jfm_load.specs.Metrics.{Metric, metric_of, jis_of, class_of, measures_of}
+use Rattle.jfm_load.specs.Metrics.{Metric, metric_of, class_of, measures_of}
 use Rattle.dvi_code.specs.declared.font.FontDef.{FontDef}
 use Rattle.dvi_code.specs.declared.page.DviPage.{DviPage}
 use Rattle.ts_job.specs.declared.fault.FaultKind.{FaultKind}
@@ -112,7 +114,7 @@ box_depth metric cells = fold int_max (pos 0) (map (depth_of metric) cells)
 abbrev pub glyphs_from : Metric → ℤ → ℤ → List Kuten → List Glyph
 glyphs_from metric x y [] = []
 glyphs_from metric x y (k ∷ ks) =
-    record { code = jis_of k; at = record { x = record { 0 = x }; y = record { 0 = y } } } ∷ glyphs_from metric (x +ℤ width_of metric k) y ks
+    record { code = number_of jis k; at = record { x = record { 0 = x }; y = record { 0 = y } } } ∷ glyphs_from metric (x +ℤ width_of metric k) y ks
 
 abbrev pub font_def : Form → Metric → FontDef
 font_def form metric = record { number = pos 0; check_sum = metric.check_sum; size = ten_points; design = ten_points; name = form.name }

@@ -2,7 +2,9 @@
 use Rattle.std.specs.Prelude.{◌≡◌, ◌≤◌, length, true, ℤ, pos, neg_ℤ, ◌≤ℤ◌, Some}
 use Rattle.std.specs.List.{list_all}
 use Rattle.jis_codes.specs.Kuten.{Kuten, IsKuten}
-use Rattle.jfm_load.specs.Metrics.{Metric, jis_of}
+use Rattle.jis_codes.specs.Spellings.{jis}
+use Rattle.jis_codes.specs.Numbers.{number_of}
+use Rattle.jfm_load.specs.Metrics.{Metric}
 use Rattle.dvi_code.specs.declared.font.FontDef.{FontDef}
 use Rattle.dvi_code.specs.Pages.{Widths}
 use Rattle.ts_job.specs.declared.writer.page.Glyph.{Glyph}
@@ -29,9 +31,9 @@ IsNear z = (neg_ℤ (pos 524288000) ≤ℤ z) × (z ≤ℤ pos 524288000)
 pub record HasCell (metric : Metric) (glyph : Glyph) : Type 0 where
   pub cell : Kuten
   pub there : IsKuten cell
-  pub code : glyph.code ≡ jis_of cell
+  pub code : glyph.code ≡ number_of jis cell
   pub small : IsSmall (width_of metric cell)
 
 -- widths that give each cell the width that the metric gives it
 abbrev pub GivesWidths : Widths → FontDef → Metric → Type 0
-GivesWidths widths font metric = (k : Kuten) → IsKuten k → widths font (jis_of k) ≡ Some (record { 0 = width_of metric k })
+GivesWidths widths font metric = (k : Kuten) → IsKuten k → widths font (number_of jis k) ≡ Some (record { 0 = width_of metric k })

@@ -4,7 +4,9 @@ ghost use Rattle.std.specs.Prelude.{◌≡◌, ◌≤◌, ◌++◌, [], ◌∷�
 ghost use Rattle.std.specs.List.{All};
 ghost use Rattle.std.specs.Int.{int_max};
 ghost use Rattle.jis_codes.specs.Kuten.{IsKuten};
-ghost use Rattle.jfm_load.specs.Metrics.{jis_of, class_of, measures_of};
+ghost use Rattle.jis_codes.specs.Spellings.{jis};
+ghost use Rattle.jis_codes.specs.Numbers.{number_of};
+ghost use Rattle.jfm_load.specs.Metrics.{class_of, measures_of};
 ghost use Rattle.dvi_code.specs.Structure.{is_sound_font};
 ghost use Rattle.dvi_code.specs.Pages.{Widths, file_pages};
 ghost use Rattle.ts_job.specs.Meant.{FitsGlyph};
@@ -70,7 +72,7 @@ fn extents(metric: &Japanese, cells: &[Cell]) -> (Sp, Sp)
 fn glyph(cell: Cell, x: Sp, y: Sp) -> Glyph
     requires along { IsNear x.0 }
     requires across { IsNear y.0 }
-    ensures value { result ≡ record { code = jis_of cell; at = record { x = x; y = y } } }
+    ensures value { result ≡ record { code = number_of jis cell; at = record { x = x; y = y } } }
     ensures there { IsKuten cell }
     ensures fits { FitsGlyph result }
 {

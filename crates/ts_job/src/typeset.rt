@@ -20,7 +20,7 @@ use crate::stop::Stop;
 use crate::words::Request;
 use byteorder::{BigEndian, ByteOrder};
 use input_codings::{Line, LineFault, Lines, OpenFault};
-use jfm_load::{Japanese, laws, read};
+use jfm_load::{Japanese, a_metric_is_in_its_first_words, read};
 use std::alloc::Global;
 use ts_geometry::MetricFault;
 use ts_outside::{FileName, Files};
@@ -133,7 +133,7 @@ fn word_count(bytes: &[u8]) -> u16
 fn hold_metric(bytes: &[u8])
     ensures { (file : List ℕ) → take 262140 file ≡ bytes.now → metric_of file ≡ metric_of bytes.now }
 {
-    laws::a_metric_is_in_its_first_words();
+    a_metric_is_in_its_first_words();
     if 28 <= bytes.len() {
         let _count = word_count(bytes);
     }

@@ -1,7 +1,7 @@
 use Rattle.std.proofs.Common.{◌≡◌, map}
 use Rattle.jfm_load.specs.Words.{words}
 use Rattle.jfm_load.specs.Parts.{table_in, fix_kind, fix_of}
-use Rattle.jfm_load.specs.Left.{unchecked}
+use Rattle.jfm_load.proofs.PartsLeft.{unchecked}
 use Rattle.jfm_load.proofs.parts.check_table.Given as goal
 
 abbrev pub invariant-loop-i : goal.invariant-loop-i
