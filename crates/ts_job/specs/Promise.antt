@@ -1,5 +1,5 @@
 -- What a job promises: its outcome, the pages that it writes, its report, and what stands after it.
-use Rattle.std.specs.Prelude.{◌≡◌, ℕ, ◌≤◌, List, [], ◌∷◌, length, Option, Some, None, Result, Ok, Err, ◌⊎◌, if◌then◌else◌}
+use Rattle.std.specs.Prelude.{◌≡◌, ℕ, List, [], ◌∷◌, length, Option, Some, None, Result, Ok, Err, ◌⊎◌, if◌then◌else◌}
 use Rattle.std.specs.declared.vec.Vec.{Vec}
 use Rattle.std.specs.declared.alloc.Global.{Global}
 use Rattle.ts_geometry.specs.declared.measure.Sp.{Sp}
@@ -147,10 +147,10 @@ Reports outcomes.ReadFault text old new = new ≡ old
 Reports outcomes.SinkFault text old new = GainedPrefix old new text
 Reports outcomes.NoMemory text old new = GainedPrefix old new text
 
--- The count of the files rises where a read failed, and else only where memory ran out.
+-- The count of the files rises where a read failed, and at no other answer.
 abbrev pub CountsFiles : Outcome → ℕ → ℕ → Type 0
 CountsFiles outcomes.ReadFault old new = Rose old new
-CountsFiles outcomes.NoMemory old new = old ≤ new
+CountsFiles outcomes.NoMemory old new = new ≡ old
 CountsFiles outcomes.Done old new = new ≡ old
 CountsFiles (outcomes.SourceFault fault) old new = new ≡ old
 CountsFiles outcomes.Usage old new = new ≡ old

@@ -1,6 +1,6 @@
 //! The whole of a job.
 
-ghost use Rattle.std.specs.Prelude.{◌≡◌, ◌≢◌, Err, Some, List, map, string_bytes, OnOk, OnErr};
+ghost use Rattle.std.specs.Prelude.{◌≡◌, Some, List, map, string_bytes, OnOk, OnErr};
 ghost use Rattle.ts_outside.specs.Agreement.{Counts, Rose};
 ghost use Rattle.ts_outside.specs.Gaining.{Gained, GainedPrefix, put_cause};
 ghost use Rattle.ts_outside.specs.Reading.{Held, KeepsAll};
@@ -20,7 +20,6 @@ fn tell<R: Sink>(alloc: Global, outcome: &Outcome, report: &mut R) -> Result<(),
     ensures all { OnOk result (Gained (R.held report.old) (R.held report.new) (the_report_of 1 outcome.now)) }
     ensures part { OnErr result (GainedPrefix (R.held report.old) (R.held report.new) (the_report_of 1 outcome.now)) }
     ensures counted { Counts put_cause result (R.faults report.old) (R.faults report.new) }
-    ensures quiet { result ≢ Err PutFault.Failed → R.faults report.new ≡ R.faults report.old }
 {
     let Ok(text) = report_of(alloc, 1, outcome) else {
         return Err(PutFault::NoMemory);

@@ -18,7 +18,7 @@ fault_follows cause e first x step done agrees = rw done agrees
 pub counts_follow : (cause : Cause) (old between new : ℕ) → between ≡ old → CountsFault cause between new → CountsFault cause old new
 counts_follow Determined old between new same counts = counts ∙ same
 counts_follow Counted old between new same counts = rw (← same) counts
-counts_follow Free old between new same counts = rw (← same) counts
+counts_follow Free old between new same counts = counts ∙ same
 
 pub gained_then : (old between new : Option (List ℕ)) (x y : List ℕ) → Gained old between x → Gained between new y → Gained old new (x ++ y)
 gained_then None between new x y first second = rw (second, first) refl

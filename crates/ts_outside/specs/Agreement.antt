@@ -40,9 +40,9 @@ Rose old new = (old ≤ new) × (min (old + 1) last_count ≤ new)
 abbrev pub CountsFault : Cause → ℕ → ℕ → Type 0
 CountsFault Determined old new = new ≡ old
 CountsFault Counted old new = Rose old new
-CountsFault Free old new = old ≤ new
+CountsFault Free old new = new ≡ old
 
--- The count rose where a counted fault was answered, never fell, and else is as it was, but for want of memory.
+-- The count rose where a counted fault was answered, and else is as it was.
 abbrev pub Counts : {X E : Type 0} → (E → Cause) → Result X E → ℕ → ℕ → Type 0
 Counts cause (Ok x) old new = new ≡ old
 Counts cause (Err e) old new = CountsFault (cause e) old new

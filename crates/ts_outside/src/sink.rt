@@ -1,6 +1,6 @@
 //! Sinks to write to.
 
-ghost use Rattle.std.specs.Prelude.{◌≡◌, ◌≢◌, ◌<◌, ℕ, List, Option, length, OnOk, OnErr};
+ghost use Rattle.std.specs.Prelude.{◌≡◌, ◌<◌, ℕ, List, Option, length, OnOk, OnErr};
 ghost use Rattle.ts_outside.specs.Agreement.{Counts};
 ghost use Rattle.ts_outside.specs.Gaining.{Takes, CountsPut, Gained, GainedPart, put_cause};
 
@@ -47,7 +47,6 @@ pub fn put_all<S: Sink>(sink: &mut S, bytes: &[u8]) -> Result<(), PutFault>
     ensures all { OnOk result (Gained (S.held sink.old) (S.held sink.new) bytes.now) }
     ensures part { OnErr result (GainedPart (S.held sink.old) (S.held sink.new) bytes.now) }
     ensures counted { Counts put_cause result (S.faults sink.old) (S.faults sink.new) }
-    ensures quiet { result ≢ Err PutFault.Failed → S.faults sink.new ≡ S.faults sink.old }
 {
     let mut done = 0;
     while done < bytes.len() {
