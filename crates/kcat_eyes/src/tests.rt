@@ -1,5 +1,6 @@
 //! Lines with the codes that hold at the start.
 
+ghost use Rattle.std.specs.Prelude.{◌≡◌, true, false, IfOk};
 ghost use Rattle.kcat_eyes.specs.StartCodes.{start_cat, start_kcat};
 
 use crate::find::{Find, in_line};
@@ -9,8 +10,8 @@ use input_codings::Coding;
 use jis_codes::{Cell, Char};
 use std::alloc::Global;
 use std::test::Fail;
-use tok_lists::{CodeTable, NameNo, Names, Token};
-use ts_outside::{FileName, MemFile, MemFiles};
+use tok_lists::{CodeTable, NameNo, Names, Token, Tokens};
+use ts_outside::{FileName, Files, MemFile, MemFiles};
 
 struct Start;
 
@@ -100,57 +101,68 @@ fn lines(rt: HostRuntime) -> Result<(), Fail> {
     Ok(())
 }
 
-fn one_file(alloc: Global, name: FileName, bytes: &[u8]) -> Result<MemFiles, Fail> {
+// A file of these bytes in EUC, with reads cut to one byte, and the eyes on it.
+fn opened(alloc: Global, bytes: &[u8]) -> Result<(MemFiles, Eyes), Fail>
+    ensures open { IfOk result (λ o. ⟦<MemFiles as Files>⟧.is_open o.0 o.1.lines.file ≡ true) }
+    ensures unfailed { IfOk result (λ o. o.1.lines.failed ≡ false) }
+{
+    let name = FileName::new(alloc, b"a.tex")?;
     let file = MemFile {
-        name,
+        name: FileName::new(alloc, b"a.tex")?,
         bytes: bytes.to_vec(alloc)?,
     };
-    let cuts = vec![in alloc; 1usize]?;
-    Ok(MemFiles::new(alloc, vec![in alloc; file]?, cuts, Vec::new(alloc)))
+    let held = vec![in alloc; file]?;
+    let mut files = MemFiles::new(alloc, held, vec![in alloc; 1usize]?, Vec::new(alloc));
+    let eyes = Eyes::open(alloc, &mut files, &name, Coding::Euc)?;
+    Ok((files, eyes))
 }
 
-// The first five that are seen in a file of these bytes in EUC, with the start names, and reads cut to
-// one byte.
-fn first_five(alloc: Global, bytes: &[u8]) -> Result<[Seen; 5], Fail> {
-    let mut files = one_file(alloc, FileName::new(alloc, b"a.tex")?, bytes)?;
+// The tokens that are left up to the end, with the start names and the codes of the start.
+fn tokens_left<F: Files>(alloc: Global, mut eyes: Eyes, files: &mut F) -> Result<Tokens, Fail>
+    requires open { F.is_open files.old eyes.lines.file ≡ true }
+    requires unfailed { eyes.lines.failed ≡ false }
+{
     let mut names = Names::new(alloc)?;
-    let name = FileName::new(alloc, b"a.tex")?;
-    let mut eyes = Eyes::open(alloc, &mut files, &name, Coding::Euc)?;
-    let first = eyes.next(&mut files, &Start, &mut names)?;
-    let second = eyes.next(&mut files, &Start, &mut names)?;
-    let third = eyes.next(&mut files, &Start, &mut names)?;
-    let fourth = eyes.next(&mut files, &Start, &mut names)?;
-    let fifth = eyes.next(&mut files, &Start, &mut names)?;
-    eyes.close(&mut files);
-    Ok([first, second, third, fourth, fifth])
+    let mut tokens = Tokens::new(alloc);
+    for _ in 0..u64::MAX {
+        match eyes.next(files, &Start, &mut names)? {
+            Seen::Token(token) => tokens.push(token).map_err(|_| "no memory")?,
+            Seen::End => break,
+        }
+    }
+    eyes.close(files);
+    Ok(tokens)
+}
+
+fn tokens_in(alloc: Global, bytes: &[u8]) -> Result<Tokens, Fail> {
+    let (mut files, eyes) = opened(alloc, bytes)?;
+    tokens_left(alloc, eyes, &mut files)
 }
 
 #[test]
-fn first_tokens(rt: HostRuntime) -> Result<(), Fail> {
-    let kana_a = Seen::Token(Token::Ja(Cell::new(4, 2).ok_or("no cell")?));
-    let kana_i = Seen::Token(Token::Ja(Cell::new(4, 4).ok_or("no cell")?));
-    let one = |code: u8, cat: u8| Seen::Token(Token::Char(code, cat));
-    let name = |number: u32| Seen::Token(Token::Name(NameNo(number)));
-    let space = one(b' ', 10);
-    let end = Seen::End;
-    let table: [(&[u8], [Seen; 5]); 8] = [
-        (b"\\\xB4\xC1a \xA4\xA2", [name(138), kana_a, end, end, end]),
-        (b"\xA4\xA2 b", [kana_a, space, one(b'b', 11), space, end]),
-        (
-            b"\xA4\xA2{}\xA4\xA4",
-            [kana_a, one(b'{', 1), one(b'}', 2), kana_i, end],
-        ),
-        (b"a%b\n \n", [one(b'a', 11), name(72), end, end, end]),
-        (b"  \\a  b", [name(138), one(b'b', 11), space, end, end]),
-        (b"a\\\n", [one(b'a', 11), name(138), end, end, end]),
-        (
-            b"~\\~\\  b",
-            [name(138), name(139), name(76), one(b'b', 11), space],
-        ),
-        (b"a\0b", [one(b'a', 11), one(b'b', 11), space, end, end]),
+fn tokens_of_lines(rt: HostRuntime) -> Result<(), Fail> {
+    let kana_a = Token::Ja(Cell::new(4, 2).ok_or("no cell")?);
+    let kana_i = Token::Ja(Cell::new(4, 4).ok_or("no cell")?);
+    let space = Token::Char(b' ', 10);
+    let letter = Token::Char(b'b', 11);
+    let left = Token::Char(b'{', 1);
+    let right = Token::Char(b'}', 2);
+    let par = Token::Name(NameNo(72));
+    let blank = Token::Name(NameNo(76));
+    let name = Token::Name(NameNo(138));
+    let other = Token::Name(NameNo(139));
+    let table: [(&[u8], &[Token]); 8] = [
+        (b"\\\xB4\xC1a \xA4\xA2", &[name, kana_a]),
+        (b"\xA4\xA2 b", &[kana_a, space, letter, space]),
+        (b"\xA4\xA2{}\xA4\xA4", &[kana_a, left, right, kana_i]),
+        (b"b%b\n \n", &[letter, par]),
+        (b"  \\a  b", &[name, letter, space]),
+        (b"b\\\n", &[letter, name]),
+        (b"~\\~\\  b", &[name, other, blank, letter, space]),
+        (b"b\0b", &[letter, letter, space]),
     ];
-    for (bytes, seen) in table {
-        assert_eq!(rt; first_five(rt.alloc(), bytes)?, seen);
+    for (bytes, tokens) in table {
+        assert_eq!(rt; tokens_in(rt.alloc(), bytes)?.as_slice(), tokens);
     }
     Ok(())
 }
@@ -172,51 +184,64 @@ impl CodeTable for Plain {
     }
 }
 
-#[test]
-fn faults_and_changed_codes(rt: HostRuntime) -> Result<(), Fail> {
-    let alloc = rt.alloc();
-    let name = FileName::new(alloc, b"a.tex")?;
-    let mut files = one_file(alloc, FileName::new(alloc, b"a.tex")?, b"~~%\n\x7F")?;
+// What is seen with two tables of codes, one after the other, and the number of the line.
+fn seen_by_two(alloc: Global) -> Result<(Seen, Seen, u32), Fail> {
+    let (mut files, mut eyes) = opened(alloc, b"~~")?;
     let mut names = Names::new(alloc)?;
-    let mut eyes = Eyes::open(alloc, &mut files, &name, Coding::Euc)?;
     let first = eyes.next(&mut files, &Start, &mut names)?;
     let second = eyes.next(&mut files, &Plain, &mut names)?;
-    assert_eq!(rt; first, Seen::Token(Token::Name(NameNo(138))));
-    assert_eq!(rt; second, Seen::Token(Token::Char(b'~', 12)));
-    assert_eq!(rt; eyes.line_no(), 1);
+    Ok((first, second, eyes.line_no()))
+}
+
+// What is seen where the second line has an invalid character, and the number of that line.
+fn seen_in_the_second_line(alloc: Global) -> Result<(Result<Seen, EyeFault>, u32), Fail> {
+    let (mut files, mut eyes) = opened(alloc, b"%\n\x7F")?;
+    let mut names = Names::new(alloc)?;
+    let seen = eyes.next(&mut files, &Start, &mut names);
+    Ok((seen, eyes.line_no()))
+}
+
+#[test]
+fn changed_codes_and_faults(rt: HostRuntime) -> Result<(), Fail> {
+    let name = Seen::Token(Token::Name(NameNo(138)));
+    let other = Seen::Token(Token::Char(b'~', 12));
+    assert_eq!(rt; seen_by_two(rt.alloc())?, (name, other, 1));
     assert_eq!(rt;
-        eyes.next(&mut files, &Start, &mut names),
-        Err(EyeFault::BadChar)
+        seen_in_the_second_line(rt.alloc())?,
+        (Err(EyeFault::BadChar), 2)
     );
-    assert_eq!(rt; eyes.line_no(), 2);
-    eyes.close(&mut files);
     Ok(())
+}
+
+// The tokens of a file that is ended before its first line was taken.
+fn ended_early(alloc: Global) -> Result<Tokens, Fail> {
+    let (mut files, mut eyes) = opened(alloc, b"b b\nc")?;
+    eyes.end_after_line();
+    tokens_left(alloc, eyes, &mut files)
+}
+
+// What is left of a file that is ended in mid-line.
+fn ended_in_mid_line(alloc: Global) -> Result<Tokens, Fail> {
+    let (mut files, mut eyes) = opened(alloc, b"b b\nc")?;
+    let mut names = Names::new(alloc)?;
+    eyes.next(&mut files, &Start, &mut names)?;
+    eyes.end_after_line();
+    tokens_left(alloc, eyes, &mut files)
 }
 
 #[test]
 fn a_file_ends_after_its_line(rt: HostRuntime) -> Result<(), Fail> {
-    let alloc = rt.alloc();
-    let space = Seen::Token(Token::Char(b' ', 10));
-    let letter = Seen::Token(Token::Char(b'b', 11));
-    let name = FileName::new(alloc, b"a.tex")?;
-    let mut files = one_file(alloc, FileName::new(alloc, b"a.tex")?, b"b b\nc")?;
-    let mut names = Names::new(alloc)?;
-    let mut eyes = Eyes::open(alloc, &mut files, &name, Coding::Euc)?;
-    let first = eyes.next(&mut files, &Start, &mut names)?;
-    eyes.end_after_line();
-    let second = eyes.next(&mut files, &Start, &mut names)?;
-    let third = eyes.next(&mut files, &Start, &mut names)?;
-    let fourth = eyes.next(&mut files, &Start, &mut names)?;
-    let fifth = eyes.next(&mut files, &Start, &mut names)?;
-    eyes.close(&mut files);
-    assert_eq!(rt;
-        [first, second, third, fourth, fifth],
-        [letter, space, letter, space, Seen::End]
-    );
-    let mut early = Eyes::open(alloc, &mut files, &name, Coding::Euc)?;
-    early.end_after_line();
-    let first = early.next(&mut files, &Start, &mut names)?;
-    early.close(&mut files);
-    assert_eq!(rt; first, letter);
+    let tokens = [
+        Token::Char(b'b', 11),
+        Token::Char(b' ', 10),
+        Token::Char(b'b', 11),
+        Token::Char(b' ', 10),
+    ];
+    let whole = tokens.as_slice();
+    let behind = &whole[1..];
+    let early = ended_early(rt.alloc())?;
+    assert_eq!(rt; early.as_slice(), whole);
+    let late = ended_in_mid_line(rt.alloc())?;
+    assert_eq!(rt; late.as_slice(), behind);
     Ok(())
 }

@@ -1,0 +1,8 @@
+use Rattle.std.proofs.Common.{◌≡◌, true, false}
+use Rattle.kcat_eyes.proofs.tests.tokens_left.Given as goal
+
+abbrev pub invariant-loop : goal.invariant-loop
+invariant-loop g l = record {
+  opened : g.F.Files.is_open l.files l.eyes.lines.file ≡ true;
+  unfailed : l.eyes.lines.failed ≡ false;
+}
