@@ -50,7 +50,7 @@ fn lines(rt: HostRuntime) -> Result<(), Fail> {
     let kana = Char::Ja(Cell::new(4, 2).ok_or("no cell")?);
     let kanji = Char::Ja(Cell::new(20, 33).ok_or("no cell")?);
     let space = Token::Char(b' ', 10);
-    let table: [(State, &[Char], Find); 11] = [
+    let table: [(State, &[Char], Find); 12] = [
         (
             State::NewLine,
             &[Char::One(b' '), Char::One(b'\r')],
@@ -94,6 +94,11 @@ fn lines(rt: HostRuntime) -> Result<(), Fail> {
         ),
         (State::MidLine, &[Char::One(b'%'), kana], Find::Nothing),
         (State::MidLine, &[Char::One(127)], Find::Invalid),
+        (
+            State::Kanji,
+            &[Char::One(b'\\')],
+            Find::Name(false, 1, 1, State::MidLine),
+        ),
     ];
     for (state, line, find) in table {
         assert_eq!(rt; in_line(&Start, state, line, 0), find);
