@@ -4,3 +4,4 @@ pub mod Leading
 pub mod Drawing
 pub mod Saying
 pub mod Sound
+pub mod Numbers

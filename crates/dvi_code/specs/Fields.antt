@@ -1,6 +1,8 @@
 -- The fields of a command (TeX: The Program, sections 583 to 590): each is read at the front of bytes,
 -- and gives its value and the bytes after it, or the fault that they end too early.
 use Rattle.std.specs.Prelude.{ℕ, zero, suc, ◌+◌, ◌*◌, ◌-◌, ◌^◌, List, [], ◌∷◌, length, take, drop, Result, Ok, Err, ℤ, pos, ◌-ℤ◌, nat_lt, if◌then◌else◌}
+use Rattle.std.specs.Int.{w32, cast_unsigned}
+use Rattle.byteorder.specs.Endian.{big_bytes}
 use Rattle.ts_outside.specs.Agreement.{◌>>=◌}
 use Rattle.dvi_code.specs.declared.fault.DviKind.{DviKind}
 use Rattle.dvi_code.specs.declared.fault.DviKind.TheVariants.{Truncated}
@@ -39,3 +41,7 @@ counts (suc n) bytes = do
   first ← signed 4 bytes
   others ← counts n first.1
   Ok (first.0 ∷ others.0, others.1)
+
+-- the four bytes of a number with a sign
+abbrev pub signed_bytes : ℤ → List ℕ
+signed_bytes z = big_bytes 4 (cast_unsigned w32 z)

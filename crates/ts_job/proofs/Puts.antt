@@ -6,7 +6,8 @@ use Rattle.std.proofs.lemmas.List.Concat.{flat_map-cons}
 use Rattle.byteorder.specs.Endian.{big_bytes}
 use Rattle.dvi_code.specs.declared.font.FontDef.{FontDef}
 use Rattle.ts_job.specs.declared.writer.page.Glyph.{Glyph}
-use Rattle.ts_job.specs.Written.{signed_bytes, unit_bytes, preamble_bytes, bop_bytes, definition_bytes, right_bytes, down_bytes, set_bytes, glyph_bytes, page_bytes, post_bytes, post_post_bytes, fill_count, closing_bytes, end_bytes, file_bytes}
+use Rattle.dvi_code.specs.Fields.{signed_bytes}
+use Rattle.ts_job.specs.Written.{unit_bytes, preamble_bytes, bop_bytes, definition_bytes, right_bytes, down_bytes, set_bytes, glyph_bytes, page_bytes, post_bytes, post_post_bytes, fill_count, closing_bytes, end_bytes, file_bytes}
 
 both : (x y z a b : List ℕ) → y ≡ x ++ a → z ≡ y ++ b → z ≡ x ++ (a ++ b)
 both x y z a b e f = f ∙ ap (λ (t : List ℕ). t ++ b) e ∙ append_assoc x a b

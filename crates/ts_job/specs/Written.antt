@@ -1,14 +1,11 @@
 -- The bytes that are written for a page of glyphs of one font (TeX: The Program, sections 585 to 591).
 use Rattle.std.specs.Prelude.{ℕ, ◌+◌, ◌-◌, ◌%◌, ◌^◌, ◌<◌, List, [], ◌∷◌, ◌++◌, length, replicate, ℤ, pos, negsuc}
 use Rattle.std.specs.List.{flat_map}
-use Rattle.std.specs.Int.{w32, cast_unsigned}
 use Rattle.byteorder.specs.Endian.{big_bytes}
 use Rattle.ts_geometry.specs.declared.measure.Sp.{Sp}
 use Rattle.dvi_code.specs.declared.font.FontDef.{FontDef}
+use Rattle.dvi_code.specs.Fields.{signed_bytes}
 use Rattle.ts_job.specs.declared.writer.page.Glyph.{Glyph}
-
-abbrev pub signed_bytes : ℤ → List ℕ
-signed_bytes z = big_bytes 4 (cast_unsigned w32 z)
 
 -- The numbers of the font fit their fields.
 pub record HasNumbers (f : FontDef) : Type 0 where

@@ -1,6 +1,5 @@
 //! A page of glyphs of one font as a DVI file.
 
-mod number;
 mod opcode;
 mod page;
 mod piece;

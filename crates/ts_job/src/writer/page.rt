@@ -7,12 +7,11 @@ ghost use Rattle.dvi_code.specs.Pages.{Widths, file_pages};
 ghost use Rattle.ts_job.specs.Written.{right_bytes, down_bytes, set_bytes, glyph_bytes, page_bytes, end_bytes, file_bytes, HasNumbers};
 ghost use Rattle.ts_job.specs.Meant.{IsShort, FitsGlyph, HasWidths, page_meant};
 
-use crate::writer::number::{put_short, put_signed};
 use crate::writer::opcode;
 use crate::writer::piece::{
     put_bop, put_definition, put_fill, put_post, put_post_post, put_preamble,
 };
-use dvi_code::FontDef;
+use dvi_code::{FontDef, put_short, put_signed};
 use std::alloc::{AllocError, Global};
 use ts_geometry::{Point, Sp};
 

@@ -3,9 +3,8 @@
 ghost use Rattle.std.specs.Prelude.{◌≡◌, ◌++◌, replicate, OnOk};
 ghost use Rattle.ts_job.specs.Written.{preamble_bytes, bop_bytes, definition_bytes, post_bytes, post_post_bytes, unit_bytes, HasNumbers};
 
-use crate::writer::number::{put_short, put_signed, put_unsigned};
 use crate::writer::opcode;
-use dvi_code::FontDef;
+use dvi_code::{FontDef, put_short, put_signed, put_unsigned};
 use std::alloc::AllocError;
 
 /// The identification of the format.
