@@ -1,7 +1,7 @@
 -- The commands of a DVI file (TeX: The Program, sections 585 to 590): what they say, wherever they stand,
 -- and how one is read at the front of bytes.
 use Rattle.std.specs.Prelude.{ℕ, ◌-◌, List, ◌++◌, Ok, Err, ℤ, pos, nat_eq, nat_le, ◌&&◌, if◌then◌else◌}
-use Rattle.ts_outside.specs.Agreement.{◌>>=◌}
+use Rattle.ts_base.specs.Agreement.{◌>>=◌}
 use Rattle.dvi_code.specs.declared.fault.DviKind.TheVariants.{Opcode}
 use Rattle.dvi_code.specs.declared.font.FontDef.{FontDef}
 use Rattle.dvi_code.specs.Fields.{Field, byte, text, unsigned, signed, counts}

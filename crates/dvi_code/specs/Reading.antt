@@ -1,6 +1,6 @@
 -- Bytes that say commands, and where reading stands behind them, whatever follows. So a file can be read piece by piece.
 use Rattle.std.specs.Prelude.{◌≡◌, ℕ, ◌+◌, List, [], ◌∷◌, ◌++◌, length, Result, Ok}
-use Rattle.ts_outside.specs.Agreement.{◌>>=◌}
+use Rattle.ts_base.specs.Agreement.{◌>>=◌}
 use Rattle.dvi_code.specs.declared.fault.DviKind.{DviKind}
 use Rattle.dvi_code.specs.declared.font.FontDef.{FontDef}
 use Rattle.dvi_code.specs.Commands.{Command, command}

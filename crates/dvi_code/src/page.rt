@@ -1,7 +1,7 @@
 //! The pages of a DVI file.
 
 use crate::mark::Marks;
-use ts_lists::List;
+use ts_base::List;
 
 /// A page: its ten counts, and its marks in the order in which they are set.
 #[derive(Debug, Drop)]

@@ -4,7 +4,8 @@ use Rattle.std.proofs.lemmas.List.{append-nil}
 use Rattle.std.proofs.lemmas.Bool.Decides.{nat_tests}
 use Rattle.std.proofs.lemmas.Grind.{common_steps}
 use Rattle.std.specs.Prelude.{slice_get}
-use Rattle.ts_outside.specs.Agreement.{Cause, Determined, Counted, Free, AgreesFault, ◌>>=◌}
+use Rattle.ts_base.specs.Agreement.{AgreesFault, ◌>>=◌}
+use Rattle.ts_base.proofs.Composing.{first_refuses}
 use Rattle.jis_codes.specs.declared.Char.{Char}
 use Rattle.input_codings.specs.declared.coding.Coding.{Coding}
 use Rattle.input_codings.specs.declared.fault.LineFault.{LineFault}
@@ -97,12 +98,7 @@ pub answers_fault : (coding : Coding) (n count : ℕ) (old buffered rest : List 
     → AgreesFault (line_cause e) e (closed (decoded coding (text_of (nat_lt count (length buffered)) (take count buffered))))
     → AgreesFault (line_cause e) e (next_line (left_after coding n old))
 answers_fault coding n count old buffered rest e is few at short whole some gave =
-    rw (next_found coding n count old buffered rest is few at short whole some) (fault_ends (line_cause e) e _ _ gave)
-  where
-    fault_ends : {X Y : Type 0} (cause : Cause) (e : LineFault) (first : Result X LineFault) (step : X → Result Y LineFault) → AgreesFault cause e first → AgreesFault cause e (first >>= step)
-    fault_ends Determined e first step agrees = rw agrees refl
-    fault_ends Counted e first step agrees = tt
-    fault_ends Free e first step agrees = tt
+    rw (next_found coding n count old buffered rest is few at short whole some) (first_refuses (line_cause e) e _ _ gave)
 
 pub some_left : (old buffered rest : List ℕ) → buffered ++ rest ≡ old → 0 < length buffered → 0 < length old
 some_left old buffered rest is some = rw (← is, length-append) (omega arith)

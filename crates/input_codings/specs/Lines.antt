@@ -1,6 +1,6 @@
 -- The lines of a file, by number, and the next line of what is left of it.
-use Rattle.std.specs.Prelude.{◌≡◌, ◌≢◌, ◌≤◌, ℕ, zero, suc, ◌+◌, ◌-◌, nat_lt, if◌then◌else◌, List, [], ◌∷◌, ◌++◌, length, Option, Some, None, Result, Ok, Err, slice_get}
-use Rattle.ts_outside.specs.Agreement.{Cause, Determined, Counted, Free, ◌>>=◌}
+use Rattle.std.specs.Prelude.{◌≡◌, ◌≤◌, ℕ, zero, suc, ◌+◌, ◌-◌, nat_lt, if◌then◌else◌, List, [], ◌∷◌, ◌++◌, length, Option, Some, None, Result, Ok, Err, slice_get}
+use Rattle.ts_base.specs.Agreement.{Cause, Determined, Counted, Free, ◌>>=◌}
 use Rattle.jis_codes.specs.declared.Char.{Char}
 use Rattle.jis_codes.specs.declared.Char.TheVariants.{One}
 use Rattle.input_codings.specs.declared.coding.Coding.{Coding}
@@ -86,12 +86,8 @@ CountsLineFault Determined old new = new ≡ old + 1
 CountsLineFault Counted old new = (old ≤ new) × (new ≤ old + 1)
 CountsLineFault Free old new = (old ≤ new) × (new ≤ old + 1)
 
--- how many lines were needed and there, after an answer
+-- how many lines were needed and there, after an answer; one that is given has number 1,000,000 at most
 abbrev pub CountsLine : Result (Option (List Char)) LineFault → ℕ → ℕ → Type 0
 CountsLine (Ok None) old new = new ≡ old
-CountsLine (Ok (Some cs)) old new = new ≡ old + 1
+CountsLine (Ok (Some cs)) old new = (new ≡ old + 1) × (new ≤ most_lines)
 CountsLine (Err e) old new = CountsLineFault (line_cause e) old new
-
--- Nothing but a read answers ReadFault.
-abbrev pub NoReadFault : {X : Type 0} → Result X LineFault → Type 0
-NoReadFault answer = answer ≢ Err faults.ReadFault

@@ -1,5 +1,5 @@
 -- A file that is read into a block, and what is left of it.
-use Rattle.std.specs.Prelude.{◌≡◌, ℕ, ◌<◌, ◌==◌, ◌++◌, Bool, true, false, List, [], length, take, Option, Some, None, IsSome}
+use Rattle.std.specs.Prelude.{◌≡◌, ℕ, ◌<◌, ◌≤◌, ◌==◌, ◌++◌, Bool, true, false, List, [], length, take, Option, Some, None, IsSome}
 use Rattle.std.specs.List.{position_or_len}
 use Rattle.ts_outside.specs.declared.files.Got.{Got}
 use Rattle.ts_outside.specs.declared.files.Got.TheVariants as got
@@ -20,6 +20,14 @@ pub record LinesView : Type 0 where
   pub buffered : List ℕ
   pub ended : Bool
   pub failed : Bool
+
+-- Nothing of a file was taken.
+abbrev pub IsAtStart : Coding → LinesView → Type 0
+IsAtStart coding lines = (lines.coding ≡ coding) × (lines.line_no ≡ 0) × (lines.failed ≡ false)
+
+-- Lines were taken of the same file, and counted.
+abbrev pub IsReadOn : LinesView → LinesView → Type 0
+IsReadOn old new = (new.file ≡ old.file) × (old.line_no ≤ new.line_no)
 
 -- the bytes behind those that were read, where they are told
 abbrev pub behind : Bool → Option (List ℕ) → List ℕ

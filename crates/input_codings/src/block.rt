@@ -1,11 +1,13 @@
 //! A block of bytes that reads fill.
 
-ghost use Rattle.std.specs.Prelude.{◌≡◌, ◌≢◌, ◌-◌, ◌<◌, ◌≤◌, ℕ, [], true, length, take, drop, IfOk};
+ghost use Rattle.std.specs.Prelude.{◌≡◌, ◌-◌, ◌<◌, ◌≤◌, [], true, length, take, drop, IfOk};
+ghost use Rattle.ts_outside.specs.States.{ReadsOn};
 ghost use Rattle.ts_outside.specs.Reading.{Fills, Gives, CountsGot};
 ghost use Rattle.input_codings.specs.Reading.{Adds, Moves, EndsAt};
 
-use std::alloc::{AllocError, Global};
+use std::alloc::Global;
 use std::marker::Model;
+use ts_base::NoMemory;
 use ts_outside::{FileNo, Files, Got};
 
 /// How many bytes a block has room for: more than two lines.
@@ -54,22 +56,20 @@ fn make_room(bytes: &mut Vec<u8>, start: usize, end: usize) -> (usize, usize)
 
 // Reads once, behind the first bytes.
 fn read_behind<F: Files>(bytes: &mut Vec<u8>, end: usize, files: &mut F, file: FileNo) -> Got
-    requires number { F.is_open files.old file.0 ≡ true }
+    requires number { (F.state files.old).is_open file.0 ≡ true }
     requires room { end < length bytes.old.items }
     ensures len { length bytes.new.items ≡ length bytes.old.items }
     ensures before { take end bytes.new.items ≡ take end bytes.old.items }
     ensures fills { Fills result (length bytes.old.items - end) }
-    ensures gives { Gives (F.left files.old file.0) result (drop end bytes.new.items) (F.left files.new file.0) }
-    ensures number { (n : ℕ) → F.is_open files.new n ≡ F.is_open files.old n }
-    ensures others { (n : ℕ) → n ≢ file.0 → F.left files.new n ≡ F.left files.old n }
-    ensures held { F.held files.new ≡ F.held files.old }
-    ensures counted { CountsGot result (F.faults files.old) (F.faults files.new) }
+    ensures gives { Gives ((F.state files.old).left file.0) result (drop end bytes.new.items) ((F.state files.new).left file.0) }
+    ensures reads { ReadsOn file.0 (F.state files.old) (F.state files.new) }
+    ensures counted { CountsGot result (F.state files.old).faults (F.state files.new).faults }
 {
     files.read(file, &mut bytes[end..])
 }
 
 impl Block {
-    pub fn new(alloc: Global) -> Result<Block, AllocError>
+    pub fn new(alloc: Global) -> Result<Block, NoMemory>
         ensures { IfOk result (λ block. block ≡ []) }
     {
         Ok(Block {
@@ -96,15 +96,13 @@ impl Block {
 
     /// Reads once, behind the bytes that are there.
     pub fn fill<F: Files>(&mut self, files: &mut F, file: FileNo) -> Got
-        requires number { F.is_open files.old file.0 ≡ true }
+        requires number { (F.state files.old).is_open file.0 ≡ true }
         requires room { length self.old ≤ 65535 }
         ensures adds { Adds result self.old self.new }
-        ensures moves { Moves self.old (F.left files.old file.0) self.new (F.left files.new file.0) }
-        ensures ends { EndsAt result (F.left files.old file.0) }
-        ensures number { F.is_open files.new ≡ F.is_open files.old }
-        ensures others { (n : ℕ) → n ≢ file.0 → F.left files.new n ≡ F.left files.old n }
-        ensures held { F.held files.new ≡ F.held files.old }
-        ensures counted { CountsGot result (F.faults files.old) (F.faults files.new) }
+        ensures moves { Moves self.old ((F.state files.old).left file.0) self.new ((F.state files.new).left file.0) }
+        ensures ends { EndsAt result ((F.state files.old).left file.0) }
+        ensures reads { ReadsOn file.0 (F.state files.old) (F.state files.new) }
+        ensures counted { CountsGot result (F.state files.old).faults (F.state files.new).faults }
     {
         let (start, end) = make_room(&mut self.bytes, self.start, self.end);
         self.start = start;

@@ -2,18 +2,17 @@
 
 ghost use Rattle.std.specs.Prelude.{◌≡◌, ◌≤◌, ◌<◌, ◌+◌, ◌++◌, ◌∷◌, ℕ, [], length, take, nat_lt, get_or, OnOk, OnErr, IfOk};
 ghost use Rattle.std.proofs.Math.ListN.{replicate};
-ghost use Rattle.ts_outside.specs.Agreement.{Agrees};
+ghost use Rattle.ts_base.specs.Agreement.{Agrees, Uncounted};
 ghost use Rattle.jis_codes.specs.declared.Char.TheVariants.{One};
 ghost use Rattle.input_codings.specs.Decoding.{is_space as the_is_space, length_of as the_length_of, trimmed, decoded};
 ghost use Rattle.input_codings.specs.Pieces.{text_of as the_text_of};
-ghost use Rattle.input_codings.specs.Lines.{closed, line_cause, NoReadFault};
+ghost use Rattle.input_codings.specs.Lines.{closed, line_cause};
 
 use crate::coding::Coding;
 use crate::fault::LineFault;
 use crate::item::{Item, State, item_of};
-use jis_codes::Char;
+use jis_codes::{Char, Chars};
 use std::alloc::Global;
-use tok_lists::Chars;
 
 // Without a byte 13 directly before the byte 10.
 fn text_of(ended: bool, bytes: &[u8]) -> &[u8]
@@ -47,9 +46,7 @@ fn push_spaces(chars: &mut Chars, count: usize) -> Result<(), LineFault>
 {
     for pushed in 0..count {
         let _ = pushed;
-        if chars.push(Char::One(32)).is_err() {
-            return Err(LineFault::NoMemory);
-        }
+        chars.push(Char::One(32))?;
     }
     Ok(())
 }
@@ -69,10 +66,8 @@ fn push_behind(chars: &mut Chars, spaces: usize, c: Char) -> Result<usize, LineF
         return Ok(spaces + 1);
     }
     push_spaces(chars, spaces)?;
-    match chars.push(c) {
-        Ok(()) => Ok(0),
-        Err(_) => Err(LineFault::NoMemory),
-    }
+    chars.push(c)?;
+    Ok(0)
 }
 
 // How many bytes a character has.
@@ -92,7 +87,7 @@ fn length_of(c: &Char) -> usize
 fn decode(alloc: Global, coding: Coding, bytes: &[u8]) -> Result<Chars, LineFault>
     requires { length bytes.now ≤ 65535 }
     ensures exact { Agrees (λ chars. chars) line_cause result (closed (decoded coding bytes.now)) }
-    ensures quiet { NoReadFault result }
+    ensures quiet { Uncounted line_cause result }
 {
     let mut chars = Chars::new(alloc);
     let mut spaces = 0;
@@ -112,10 +107,8 @@ fn decode(alloc: Global, coding: Coding, bytes: &[u8]) -> Result<Chars, LineFaul
             }
         }
     }
-    match chars.push(Char::One(13)) {
-        Ok(()) => Ok(chars),
-        Err(_) => Err(LineFault::NoMemory),
-    }
+    chars.push(Char::One(13))?;
+    Ok(chars)
 }
 
 /// The characters of the line that begins the bytes and has so many of them before its byte 10, or
@@ -130,7 +123,7 @@ pub fn line_chars(
     requires most { count ≤ 65535 }
     ensures exact { Agrees (λ chars. chars) line_cause result
         (closed (decoded coding (the_text_of (nat_lt count (length bytes.now)) (take count bytes.now)))) }
-    ensures quiet { NoReadFault result }
+    ensures quiet { Uncounted line_cause result }
 {
     decode(alloc, coding, text_of(count < bytes.len(), &bytes[..count]))
 }

@@ -1,6 +1,11 @@
 //! Why lines aren't given.
 
+ghost use Rattle.std.specs.Prelude.{◌≡◌};
+ghost use Rattle.input_codings.specs.declared.fault.LineFault.TheVariants as faults;
+ghost use Rattle.input_codings.specs.declared.fault.OpenFault.TheVariants as refusals;
+
 use thiserror::Error;
+use ts_base::NoMemory;
 
 /// Why a file isn't opened.
 #[derive(Clone, Copy, Debug, Drop, PartialEq, Eq, Error)]
@@ -31,4 +36,20 @@ pub enum LineFault {
     ReadFault,
     #[error("out of memory")]
     NoMemory,
+}
+
+impl From<NoMemory> for OpenFault {
+    ghost from_gives = { λ _ fault. fault ≡ refusals.NoMemory };
+
+    fn from(_error: NoMemory) -> OpenFault {
+        OpenFault::NoMemory
+    }
+}
+
+impl From<NoMemory> for LineFault {
+    ghost from_gives = { λ _ fault. fault ≡ faults.NoMemory };
+
+    fn from(_error: NoMemory) -> LineFault {
+        LineFault::NoMemory
+    }
 }

@@ -2,7 +2,7 @@
 
 ghost use Rattle.std.specs.Prelude.{◌≡◌, ◌+◌, ℕ, List, Ok};
 ghost use Rattle.std.specs.List.{All};
-ghost use Rattle.ts_outside.specs.Agreement.{followed_by};
+ghost use Rattle.ts_base.specs.Agreement.{followed_by};
 ghost use Rattle.jis_codes.specs.declared.Char.{Char};
 ghost use Rattle.input_codings.specs.declared.coding.Coding.{Coding};
 ghost use Rattle.input_codings.specs.Decoding.{decoded};

@@ -2,8 +2,8 @@
 
 ghost use Rattle.std.specs.Prelude.{◌≡◌};
 
+use jis_codes::Chars;
 use std::marker::Model;
-use tok_lists::Chars;
 
 /// A line of a file: its characters, with character 13 at the end. Contracts see the list.
 #[derive(Debug, Drop)]

@@ -1,10 +1,11 @@
 //! The lines of an open file, one after another.
 
 ghost use Rattle.std.specs.Prelude.{◌≡◌, ◌≢◌, ◌≤◌, ◌<◌, ◌+◌, ℕ, [], true, false, length, drop, IsSome, OnOk, OnErr, IfOk, IfSome, MatchResult, is_err};
-ghost use Rattle.ts_outside.specs.Agreement.{Agrees, Counts};
-ghost use Rattle.ts_outside.specs.Reading.{KeepsOthers, KeepsAll, bytes_of};
+ghost use Rattle.ts_base.specs.Agreement.{Agrees, Counts};
+ghost use Rattle.ts_outside.specs.States.{OpensIfOk, ReadsOn, Closes};
+ghost use Rattle.ts_outside.specs.Reading.{bytes_of};
 ghost use Rattle.input_codings.specs.Lines.{next_line, opened, line_cause, open_cause, CountsLine};
-ghost use Rattle.input_codings.specs.Reading.{unread};
+ghost use Rattle.input_codings.specs.Reading.{unread, IsAtStart};
 
 use crate::block::Block;
 use crate::coding::Coding;
@@ -49,19 +50,17 @@ impl Lines {
         name: &FileName,
         coding: Coding,
     ) -> Result<Lines, OpenFault>
-        ensures opens { IfSome (F.held files.old) (λ held. Agrees (λ lines. unread lines (F.left files.new lines.file)) open_cause result (opened coding (bytes_of held name.now))) }
-        ensures told { IfOk result (λ lines. IsSome (F.held files.old) → IsSome (F.left files.new lines.file)) }
-        ensures start { IfOk result (λ lines. lines ≡ record { file = lines.file; coding = coding; line_no = 0; buffered = []; ended = false; failed = false }) }
-        ensures fresh { IfOk result (λ lines. F.is_open files.old lines.file ≡ false) }
-        ensures open { IfOk result (λ lines. F.is_open files.new lines.file ≡ true) }
-        ensures others { IfOk result (λ lines. KeepsOthers lines.file (F.is_open files.old) (F.left files.old) (F.is_open files.new) (F.left files.new)) }
-        ensures refused { OnErr result (KeepsAll (F.is_open files.old) (F.left files.old) (F.is_open files.new) (F.left files.new)) }
-        ensures held { F.held files.new ≡ F.held files.old }
-        ensures counted { Counts open_cause result (F.faults files.old) (F.faults files.new) }
+        ensures opens { IfSome (F.state files.old).held (λ held.
+            Agrees (λ lines. unread lines ((F.state files.new).left lines.file)) open_cause result
+            (opened coding (bytes_of held name.now))) }
+        ensures told { IfOk result (λ lines. IsSome (F.state files.old).held
+            → IsSome ((F.state files.new).left lines.file)) }
+        ensures start { IfOk result (λ lines. IsAtStart coding lines) }
+        ensures leaves { OpensIfOk (λ lines. lines.file) result (F.state files.old)
+            (F.state files.new) }
+        ensures counted { Counts open_cause result (F.state files.old).faults (F.state files.new).faults }
     {
-        let Ok(block) = Block::new(alloc) else {
-            return Err(OpenFault::NoMemory);
-        };
+        let block = Block::new(alloc)?;
         let file = match files.open(name) {
             Opened::Found(file) => file,
             Opened::Missing => return Err(OpenFault::Missing),
@@ -77,9 +76,10 @@ impl Lines {
         })
     }
 
-    /// The number of the last line that was needed and is there, or 0 before the first.
+    /// Returns the number of the last line that was needed and is there, or 0 before the first.
     pub fn line_no(&self) -> u32
-        ensures { result ≡ self.now.line_no }
+        ensures value { result ≡ self.now.line_no }
+        ensures most { self.now.failed ≡ false → result ≤ 1000000 }
     {
         self.line_no
     }
@@ -93,18 +93,17 @@ impl Lines {
 
     /// The next line, or none at the end of the file. After a refusal it isn't asked for another.
     pub fn next_line<F: Files>(&mut self, files: &mut F) -> Result<Option<Line>, LineFault>
-        requires open { F.is_open files.old self.old.file ≡ true }
+        requires open { (F.state files.old).is_open self.old.file ≡ true }
         requires unfailed { self.old.failed ≡ false }
-        ensures exact { IsSome (F.left files.old self.old.file) → Agrees (λ line. (line, unread self.new (F.left files.new self.old.file))) line_cause result (next_line (unread self.old (F.left files.old self.old.file))) }
-        ensures told { IsSome (F.left files.old self.old.file) → IsSome (F.left files.new self.old.file) }
+        ensures exact { IsSome ((F.state files.old).left self.old.file)
+            → Agrees (λ line. (line, unread self.new ((F.state files.new).left self.old.file)))
+            line_cause result (next_line (unread self.old ((F.state files.old).left self.old.file))) }
         ensures file { self.new.file ≡ self.old.file }
         ensures coding { self.new.coding ≡ self.old.coding }
         ensures counts { CountsLine result self.old.line_no self.new.line_no }
         ensures failed { self.new.failed ≡ is_err result }
-        ensures open { F.is_open files.new self.old.file ≡ true }
-        ensures others { KeepsOthers self.old.file (F.is_open files.old) (F.left files.old) (F.is_open files.new) (F.left files.new) }
-        ensures held { F.held files.new ≡ F.held files.old }
-        ensures counted { Counts line_cause result (F.faults files.old) (F.faults files.new) }
+        ensures reads { ReadsOn self.old.file (F.state files.old) (F.state files.new) }
+        ensures counted { Counts line_cause result (F.state files.old).faults (F.state files.new).faults }
     {
         self.failed = true;
         if !self.source.has_more(files)? {
@@ -124,11 +123,9 @@ impl Lines {
 
     /// Closes the file.
     pub fn close<F: Files>(self, files: &mut F)
-        requires { F.is_open files.old self.file ≡ true }
-        ensures closed { F.is_open files.new self.file ≡ false }
-        ensures others { KeepsOthers self.file (F.is_open files.old) (F.left files.old) (F.is_open files.new) (F.left files.new) }
-        ensures held { F.held files.new ≡ F.held files.old }
-        ensures counted { F.faults files.new ≡ F.faults files.old }
+        requires { (F.state files.old).is_open self.file ≡ true }
+        ensures closes { Closes self.file (F.state files.old) (F.state files.new) }
+        ensures counted { (F.state files.new).faults ≡ (F.state files.old).faults }
     {
         self.source.close(files);
     }

@@ -1,9 +1,9 @@
 //! An open file that is read a block at a time.
 
 ghost use Rattle.std.specs.Prelude.{◌≡◌, ◌≢◌, ◌≤◌, ◌<◌, ◌+◌, ◌⊎◌, ℕ, [], true, false, length, drop, IsSome, OnOk, OnErr, IfOk};
-ghost use Rattle.ts_outside.specs.Agreement.{Counts};
-ghost use Rattle.ts_outside.specs.Reading.{KeepsOthers, KeepsAll};
-ghost use Rattle.input_codings.specs.Lines.{line_cause, open_cause};
+ghost use Rattle.ts_base.specs.Agreement.{Counts};
+ghost use Rattle.ts_outside.specs.States.{ReadsOn, Closes};
+ghost use Rattle.input_codings.specs.Lines.{line_cause};
 ghost use Rattle.input_codings.specs.Reading.{Grows, KeepsBytes, left_to_use, before_ten};
 
 use crate::block::Block;
@@ -80,18 +80,16 @@ impl Source {
 
     /// Reads once, and tells whether bytes came.
     fn fill<F: Files>(&mut self, files: &mut F) -> Result<bool, LineFault>
-        requires number { F.is_open files.old self.old.file ≡ true }
+        requires number { (F.state files.old).is_open self.old.file ≡ true }
         requires room { length self.old.buffered ≤ 65535 }
         ensures same { self.new.file ≡ self.old.file }
-        ensures bytes { KeepsBytes self.old (F.left files.old self.old.file) self.new (F.left files.new self.old.file) }
+        ensures bytes { KeepsBytes self.old ((F.state files.old).left self.old.file) self.new ((F.state files.new).left self.old.file) }
         ensures more { length self.old.buffered ≤ length self.new.buffered }
         ensures came { result ≡ Ok true → Grows self.old.buffered self.new.buffered }
         ensures ended { result ≡ Ok false → (self.new.buffered ≡ self.old.buffered) × (self.new.ended ≡ true) }
-        ensures number { F.is_open files.new ≡ F.is_open files.old }
-        ensures others { (n : ℕ) → n ≢ self.old.file → F.left files.new n ≡ F.left files.old n }
-        ensures held { F.held files.new ≡ F.held files.old }
+        ensures reads { ReadsOn self.old.file (F.state files.old) (F.state files.new) }
         ensures quiet { OnErr result (result ≡ Err LineFault.ReadFault) }
-        ensures counted { Counts line_cause result (F.faults files.old) (F.faults files.new) }
+        ensures counted { Counts line_cause result (F.state files.old).faults (F.state files.new).faults }
     {
         if self.ended {
             return Ok(false);
@@ -108,16 +106,14 @@ impl Source {
 
     /// Whether a byte is left. If so, it is in the block then.
     pub fn has_more<F: Files>(&mut self, files: &mut F) -> Result<bool, LineFault>
-        requires { F.is_open files.old self.old.file ≡ true }
+        requires { (F.state files.old).is_open self.old.file ≡ true }
         ensures same { self.new.file ≡ self.old.file }
-        ensures bytes { KeepsBytes self.old (F.left files.old self.old.file) self.new (F.left files.new self.old.file) }
+        ensures bytes { KeepsBytes self.old ((F.state files.old).left self.old.file) self.new ((F.state files.new).left self.old.file) }
         ensures more { result ≡ Ok true → 0 < length self.new.buffered }
         ensures none { result ≡ Ok false → (self.new.buffered ≡ []) × (self.new.ended ≡ true) }
-        ensures number { F.is_open files.new ≡ F.is_open files.old }
-        ensures others { (n : ℕ) → n ≢ self.old.file → F.left files.new n ≡ F.left files.old n }
-        ensures held { F.held files.new ≡ F.held files.old }
+        ensures reads { ReadsOn self.old.file (F.state files.old) (F.state files.new) }
         ensures quiet { OnErr result (result ≡ Err LineFault.ReadFault) }
-        ensures counted { Counts line_cause result (F.faults files.old) (F.faults files.new) }
+        ensures counted { Counts line_cause result (F.state files.old).faults (F.state files.new).faults }
     {
         if !self.block.as_slice().is_empty() {
             return Ok(true);
@@ -128,19 +124,17 @@ impl Source {
     /// Reads up to the next byte 10 or the end of the file. How many bytes stand before it, all of
     /// them in the block then.
     pub fn find_end<F: Files>(&mut self, files: &mut F) -> Result<usize, LineFault>
-        requires { F.is_open files.old self.old.file ≡ true }
+        requires { (F.state files.old).is_open self.old.file ≡ true }
         ensures same { self.new.file ≡ self.old.file }
-        ensures bytes { KeepsBytes self.old (F.left files.old self.old.file) self.new (F.left files.new self.old.file) }
+        ensures bytes { KeepsBytes self.old ((F.state files.old).left self.old.file) self.new ((F.state files.new).left self.old.file) }
         ensures more { length self.old.buffered ≤ length self.new.buffered }
         ensures end { IfOk result (λ n. n ≡ before_ten self.new.buffered) }
         ensures most { IfOk result (λ n. n ≤ 65535) }
         ensures whole { IfOk result (λ n. n ≡ length self.new.buffered → self.new.ended ≡ true) }
         ensures long { result ≡ Err LineFault.LineTooLong → 65535 < before_ten self.new.buffered }
-        ensures number { F.is_open files.new ≡ F.is_open files.old }
-        ensures others { (n : ℕ) → n ≢ self.old.file → F.left files.new n ≡ F.left files.old n }
-        ensures held { F.held files.new ≡ F.held files.old }
+        ensures reads { ReadsOn self.old.file (F.state files.old) (F.state files.new) }
         ensures quiet { OnErr result (result ≡ Err LineFault.ReadFault ⊎ result ≡ Err LineFault.LineTooLong) }
-        ensures counted { Counts line_cause result (F.faults files.old) (F.faults files.new) }
+        ensures counted { Counts line_cause result (F.state files.old).faults (F.state files.new).faults }
     {
         let mut seen = 0;
         'find: loop {
@@ -161,11 +155,9 @@ impl Source {
 
     /// Closes the file.
     pub fn close<F: Files>(self, files: &mut F)
-        requires { F.is_open files.old self.file ≡ true }
-        ensures closed { F.is_open files.new self.file ≡ false }
-        ensures others { KeepsOthers self.file (F.is_open files.old) (F.left files.old) (F.is_open files.new) (F.left files.new) }
-        ensures held { F.held files.new ≡ F.held files.old }
-        ensures counted { F.faults files.new ≡ F.faults files.old }
+        requires { (F.state files.old).is_open self.file ≡ true }
+        ensures closes { Closes self.file (F.state files.old) (F.state files.new) }
+        ensures counted { (F.state files.new).faults ≡ (F.state files.old).faults }
     {
         files.close(self.file);
     }

@@ -4,7 +4,7 @@ use Rattle.ts_geometry.specs.declared.fault.BadKind.{BadKind}
 use Rattle.ts_geometry.specs.declared.fault.MetricFault.{MetricFault}
 use Rattle.ts_geometry.specs.declared.fault.MetricFault.TheVariants.{Bad}
 use Rattle.jfm_load.specs.declared.tables.CharType.{CharType}
-use Rattle.ts_outside.specs.Agreement.{AgreesFault}
+use Rattle.ts_base.specs.Agreement.{AgreesFault}
 use Rattle.jfm_load.specs.Metrics.{cause}
 use Rattle.jfm_load.specs.Words.{word, words}
 use Rattle.jfm_load.specs.Left.{left}

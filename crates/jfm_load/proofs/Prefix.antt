@@ -2,7 +2,7 @@
 use Rattle.std.proofs.Common.{◌≡◌, ℕ, zero, suc, ◌+◌, ◌*◌, ◌≤◌, ◌<◌, inl, inr, Bool, true, false, List, length, get_or, take, drop, nat_lt, not, if◌then◌else◌, Result, Ok, Err, arith, refl, ap, sym, ◌∙◌, get_or-drop, get_or-take, take_all, length-take-le}
 use Rattle.std.proofs.lemmas.Bool.{cases_lt}
 use Rattle.std.proofs.lemmas.Bool.Decides.{nat_tests}
-use Rattle.ts_outside.specs.Agreement.{◌>>=◌}
+use Rattle.ts_base.specs.Agreement.{◌>>=◌}
 use Rattle.jfm_load.specs.declared.lengths.Lengths.{Lengths}
 use Rattle.jfm_load.specs.Words.{halfword, word, words}
 use Rattle.jfm_load.specs.Parts.{lengths_of, contradict, lengths_in, is_jfm, has_programs, class_count, file_end, char_type_start, char_info_start, width_start, height_start, depth_start, italic_start, param_start}

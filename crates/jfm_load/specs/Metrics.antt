@@ -7,7 +7,7 @@ use Rattle.ts_geometry.specs.Numbers.{scale}
 use Rattle.jis_codes.specs.Kuten.{Kuten}
 use Rattle.jis_codes.specs.Spellings.{jis}
 use Rattle.jis_codes.specs.Numbers.{number_of}
-use Rattle.ts_outside.specs.Agreement.{◌>>=◌, Cause, Determined, Free}
+use Rattle.ts_base.specs.Agreement.{◌>>=◌, Cause, Determined, Free}
 use Rattle.jfm_load.specs.declared.tables.CharType.{CharType}
 use Rattle.jfm_load.specs.declared.tables.CharInfo.{CharInfo}
 use Rattle.jfm_load.specs.Words.{word}

@@ -3,7 +3,7 @@
 ghost use Rattle.std.specs.Prelude.{◌≡◌, ◌*◌, ◌≤◌, ◌<◌, ◌^◌, length, IsTrue, slice_index_or, pos};
 ghost use Rattle.std.specs.List.{list_all};
 ghost use Rattle.ts_geometry.specs.Numbers.{scale};
-ghost use Rattle.ts_outside.specs.Agreement.{Agrees};
+ghost use Rattle.ts_base.specs.Agreement.{Agrees};
 ghost use Rattle.jfm_load.specs.Metrics.{metric_of, class_of, measures_of, param_of, cause};
 ghost use Rattle.jfm_load.specs.Sound.{IsWithin, is_fix};
 

@@ -1,7 +1,7 @@
 //! The halfwords with which a JFM begins, and where they put its parts.
 
 ghost use Rattle.std.specs.Prelude.{◌≡◌, ◌*◌, ◌≤◌, length, IfOk};
-ghost use Rattle.ts_outside.specs.Agreement.{Agrees};
+ghost use Rattle.ts_base.specs.Agreement.{Agrees};
 ghost use Rattle.jfm_load.specs.Parts as spec;
 ghost use Rattle.jfm_load.specs.Sound.{AreSound};
 ghost use Rattle.jfm_load.specs.Metrics.{cause};

@@ -1,7 +1,7 @@
 //! The parts of a JFM, each read from where it begins, in words, up to its first bad word.
 
 ghost use Rattle.std.specs.Prelude.{◌≡◌, ◌+◌, ◌*◌, ◌≤◌, length, map};
-ghost use Rattle.ts_outside.specs.Agreement.{Agrees};
+ghost use Rattle.ts_base.specs.Agreement.{Agrees};
 ghost use Rattle.jfm_load.specs.Parts as spec;
 ghost use Rattle.jfm_load.specs.Sound.{AreSound};
 ghost use Rattle.jfm_load.specs.Metrics.{cause};

@@ -6,7 +6,7 @@ mod character;
 mod spelling;
 
 pub use cell::Cell;
-pub use character::Char;
+pub use character::{Char, Chars};
 pub use spelling::{
     are_one_to_one, from_euc, from_jis, from_kuten, from_sjis, to_euc, to_jis, to_kuten, to_sjis,
 };

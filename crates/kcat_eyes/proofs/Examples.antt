@@ -1,6 +1,6 @@
 -- The definition at worked lines, with the codes that hold at the start.
 use Rattle.std.proofs.Common.{◌≡◌, ℕ, zero, suc, true, false, List, [], ◌∷◌, Result, Ok, Err, refl}
-use Rattle.ts_outside.specs.Agreement.{◌>>=◌}
+use Rattle.ts_base.specs.Agreement.{◌>>=◌}
 use Rattle.input_codings.specs.declared.coding.Coding.TheVariants.{Euc}
 use Rattle.tok_lists.specs.declared.spelling.Spelling.{Spelling}
 use Rattle.tok_lists.specs.declared.token.Token.TheVariants as tokens
@@ -9,7 +9,8 @@ use Rattle.kcat_eyes.specs.declared.fault.EyeFault.TheVariants as faults
 use Rattle.kcat_eyes.specs.declared.seen.Seen.{Seen}
 use Rattle.kcat_eyes.specs.declared.seen.Seen.TheVariants as seen
 use Rattle.kcat_eyes.specs.declared.state.State.TheVariants.{NewLine}
-use Rattle.kcat_eyes.specs.Eyes.{Codes, Sight, next, needed_line}
+use Rattle.tok_lists.specs.Codes.{Codes}
+use Rattle.kcat_eyes.specs.Eyes.{Sight, next, needed_line}
 use Rattle.kcat_eyes.specs.StartCodes.{start_cat, start_kcat}
 
 start : Codes

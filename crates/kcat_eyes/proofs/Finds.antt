@@ -4,7 +4,8 @@ use Rattle.std.proofs.Common.{length-drop}
 use Rattle.std.proofs.lemmas.List.{drop_more, take_all, get_or-drop}
 use Rattle.jis_codes.specs.declared.character.Char.{Char}
 use Rattle.kcat_eyes.specs.declared.state.State.{State}
-use Rattle.kcat_eyes.specs.Eyes.{Codes, Spells, is_letter, after_symbol, escaped, met, in_line}
+use Rattle.tok_lists.specs.Codes.{Codes}
+use Rattle.kcat_eyes.specs.Eyes.{Spells, is_letter, after_symbol, escaped, met, in_line}
 
 step : (line : List Char) (at : ℕ) (first : Char) → at < length line → first ≡ get_or line at first → drop at line ≡ first ∷ drop (at + 1) line
 step line at first lt is = drop_more line at first lt ∙ ap (λ (f : Char). f ∷ drop (at + 1) line) (sym is)

@@ -4,17 +4,20 @@ use Rattle.std.specs.Prelude.{◌==◌, if◌then◌else◌}
 use mathlib.Core.Bool.{false≢true}
 use Rattle.std.specs.Result.{IsErr, IsErrAnd}
 use Rattle.kcat_eyes.specs.declared.seen.Seen.{Seen}
-use Rattle.ts_outside.specs.Agreement.{Agrees, ◌>>=◌, AgreesFault, Cause, Determined, Counted, Free}
+use Rattle.ts_base.specs.Agreement.{Agrees, ◌>>=◌, AgreesFault, Cause, Determined, Counted, Free}
+use Rattle.ts_base.proofs.Composing.{same_agrees, exit_agrees}
 use Rattle.jis_codes.specs.declared.character.Char.{Char}
 use Rattle.tok_lists.specs.declared.spelling.Spelling.{Spelling}
 use Rattle.input_codings.specs.declared.fault.LineFault.{LineFault}
+use Rattle.input_codings.specs.declared.fault.LineFault.TheVariants as faults
 use Rattle.input_codings.specs.Pieces.{Piece, pieces, after_ten, byte_then}
-use Rattle.input_codings.specs.Lines.{Unread, past_line, characters, first_of}
+use Rattle.input_codings.specs.Lines.{Unread, past_line, characters, first_of, line_cause}
 use Rattle.kcat_eyes.specs.declared.find.Find.{Find}
 use Rattle.kcat_eyes.specs.declared.find.Find.TheVariants as finds
 use Rattle.kcat_eyes.specs.declared.state.State.TheVariants.{NewLine}
 use Rattle.kcat_eyes.specs.declared.fault.EyeFault.{EyeFault}
-use Rattle.kcat_eyes.specs.Eyes.{Codes, Sight, Look, Glance, Gives, Spells, Invalid, Nothing, in_line, in_lines, still_read, behind_line, next, looked, is_nothing, last_needed, needed_behind_line, needed_line}
+use Rattle.tok_lists.specs.Codes.{Codes}
+use Rattle.kcat_eyes.specs.Eyes.{Sight, Look, Glance, Gives, Spells, Invalid, Nothing, in_line, in_lines, still_read, behind_line, next, looked, is_nothing, last_needed, needed_behind_line, needed_line, eye_fault}
 use Rattle.kcat_eyes.specs.Finds.{glance_of}
 use Rattle.kcat_eyes.specs.Sights.{eye_cause, IsLine, EndsAtLine}
 
@@ -108,15 +111,16 @@ pub something_needed : (codes : Codes) (sight : Sight) → in_line codes sight.s
 unfolding needed_line
 something_needed codes sight some = rw (something _ some) refl
 
-pub fault_at : (e : EyeFault) {a b : Result Look EyeFault} (cause : Cause) → a ≡ b → AgreesFault cause e b → AgreesFault cause e a
-fault_at e Determined same is = same ∙ is
-fault_at e Counted same is = is
-fault_at e Free same is = is
+pub line_causes : (e : LineFault) → eye_cause (eye_fault e) ≡ line_cause e
+line_causes faults.TooManyLines = refl
+line_causes faults.LineTooLong = refl
+line_causes (faults.BadByte place) = refl
+line_causes faults.ReadFault = refl
+line_causes faults.NoMemory = refl
 
 pub refusal : (view : Seen → Look) (result : Result Seen EyeFault) (e : EyeFault) {a b : Result Look EyeFault} → IsErr result × IsErrAnd result (λ d. d ≡ e) → a ≡ b
     → AgreesFault (eye_cause e) e b → Agrees view eye_cause result a
-refusal view (Ok x) e err same is = absurd (false≢true err.0)
-refusal view (Err d) e err same is = rw err.1 (fault_at e (eye_cause e) same is)
+refusal view result e err same is = exit_agrees view eye_cause result e _ err (same_agrees (eye_cause e) e _ _ same is)
 
 line_of : (cause : Cause) (n m : ℕ) → n ≡ m → IsLine cause n m
 line_of Determined n m is = is

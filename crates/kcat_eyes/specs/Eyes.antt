@@ -1,7 +1,6 @@
 -- The next token of a file: what stands in the rest of a line, and else in the lines behind it (The TeXbook, chapter 8; pTeX).
 use Rattle.std.specs.Prelude.{ℕ, suc, ◌+◌, ◌-◌, ◌==◌, ◌||◌, Bool, true, false, if◌then◌else◌, List, [], ◌∷◌, take, drop, Result, Ok, Err, codes}
-use Rattle.ts_outside.specs.Agreement.{◌>>=◌}
-use Rattle.jis_codes.specs.Kuten.{Kuten}
+use Rattle.ts_base.specs.Agreement.{◌>>=◌, with_fault}
 use Rattle.jis_codes.specs.declared.character.Char.{Char}
 use Rattle.jis_codes.specs.declared.character.Char.TheVariants.{One, Ja}
 use Rattle.tok_lists.specs.declared.spelling.Spelling.{Spelling}
@@ -9,6 +8,7 @@ use Rattle.tok_lists.specs.declared.token.Token.{Token}
 use Rattle.tok_lists.specs.declared.token.Token.TheVariants as tokens
 use Rattle.tok_lists.specs.declared.fault.NamesFault.{NamesFault}
 use Rattle.tok_lists.specs.declared.fault.NamesFault.TheVariants as names_faults
+use Rattle.tok_lists.specs.Codes.{Codes}
 use Rattle.tok_lists.specs.Names.{numbered, with_name}
 use Rattle.input_codings.specs.declared.fault.LineFault.{LineFault}
 use Rattle.input_codings.specs.declared.fault.LineFault.TheVariants as line_faults
@@ -20,11 +20,6 @@ use Rattle.kcat_eyes.specs.declared.seen.Seen.{Seen}
 use Rattle.kcat_eyes.specs.declared.seen.Seen.TheVariants as seen
 use Rattle.kcat_eyes.specs.declared.state.State.{State}
 use Rattle.kcat_eyes.specs.declared.state.State.TheVariants.{NewLine, MidLine, SkipBlanks, Kanji}
-
--- the category of each code, and the kind of each cell
-pub record Codes : Type 0 where
-  pub cat : ℕ → ℕ
-  pub kcat : Kuten → ℕ
 
 -- what the rest of a line gives first, with the state and the rest behind it: a token that is no name, the spelling of a
 -- name, a character that is invalid; or nothing
@@ -131,21 +126,13 @@ eye_fault (line_faults.BadByte place) = faults.BadByte place
 eye_fault line_faults.ReadFault = faults.ReadFault
 eye_fault line_faults.NoMemory = faults.NoMemory
 
-abbrev pub or_eye_fault : {X : Type 0} → Result X LineFault → Result X EyeFault
-or_eye_fault (Ok x) = Ok x
-or_eye_fault (Err fault) = Err (eye_fault fault)
-
 abbrev pub name_fault : NamesFault → EyeFault
 name_fault names_faults.NamesFull = faults.NamesFull
 name_fault names_faults.NoMemory = faults.NoMemory
 
-abbrev pub or_name_fault : {X : Type 0} → Result X NamesFault → Result X EyeFault
-or_name_fault (Ok x) = Ok x
-or_name_fault (Err fault) = Err (name_fault fault)
-
 abbrev pub named : Spelling → List Spelling → Sight → Result Look EyeFault
 named spelling names sight =
-    or_name_fault (numbered names spelling) >>= λ n. Ok (record { seen = seen.Token (tokens.Name (record { 0 = n })); names = with_name names spelling; sight = sight })
+    with_fault name_fault (numbered names spelling) >>= λ n. Ok (record { seen = seen.Token (tokens.Name (record { 0 = n })); names = with_name names spelling; sight = sight })
 
 -- what a glance comes to; where it gave nothing, what is seen in the lines behind it
 abbrev pub looked : List Spelling → Unread → Bool → Glance → Result Look EyeFault → Result Look EyeFault
@@ -166,7 +153,7 @@ still_read lines ends = if ends then take (1 - lines.line_no) (pieces lines.byte
 abbrev pub in_lines : Codes → List Spelling → Bool → Unread → List Piece → Result Look EyeFault
 in_lines codes names ends lines [] = Ok (at_end names lines ends)
 in_lines codes names ends lines (p ∷ ps) =
-    or_eye_fault (characters lines.coding (lines.line_no + 1) p)
+    with_fault eye_fault (characters lines.coding (lines.line_no + 1) p)
     >>= λ line. looked names (past_line lines) ends (in_line codes NewLine line) (in_lines codes names ends (past_line lines) ps)
 
 abbrev pub behind_line : Codes → List Spelling → Sight → Result Look EyeFault

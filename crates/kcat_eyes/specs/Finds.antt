@@ -1,16 +1,12 @@
 -- What is found in a line, by the places of its characters.
 use Rattle.std.specs.Prelude.{ℕ, ◌-◌, ◌≤◌, List, [], take, drop, Option, Some, None}
-use Rattle.jis_codes.specs.Kuten.{Kuten}
 use Rattle.jis_codes.specs.declared.character.Char.{Char}
 use Rattle.tok_lists.specs.declared.token.Token.{Token}
 use Rattle.tok_lists.specs.declared.token.Token.TheVariants as tokens
 use Rattle.kcat_eyes.specs.declared.find.Find.{Find}
 use Rattle.kcat_eyes.specs.declared.find.Find.TheVariants as finds
 use Rattle.kcat_eyes.specs.declared.state.State.TheVariants.{NewLine}
-use Rattle.kcat_eyes.specs.Eyes.{Codes, Glance, Gives, Spells, Invalid, Nothing, par}
-
-abbrev pub codes_by : (ℕ → ℕ) → (Kuten → ℕ) → Codes
-codes_by cat kcat = record { cat = cat; kcat = kcat }
+use Rattle.kcat_eyes.specs.Eyes.{Glance, Gives, Spells, Invalid, Nothing, par}
 
 -- what a find in a line says
 abbrev pub glance_of : List Char → Find → Glance
@@ -33,9 +29,9 @@ IsCharacter (tokens.Kept name) = ⊥
 IsCharacter (tokens.Param n) = ⊥
 
 -- The places of a find are within a line of so many characters, and its token is a character.
-abbrev pub IsWithin : ℕ → Find → Type 0
-IsWithin n (finds.Token token state at) = (at ≤ n) × IsCharacter token
-IsWithin n (finds.Name active from to state) = (from ≤ to) × (to ≤ n)
-IsWithin n finds.Paragraph = Unit {0}
-IsWithin n finds.Invalid = Unit {0}
-IsWithin n finds.Nothing = Unit {0}
+abbrev pub IsInLine : ℕ → Find → Type 0
+IsInLine n (finds.Token token state at) = (at ≤ n) × IsCharacter token
+IsInLine n (finds.Name active from to state) = (from ≤ to) × (to ≤ n)
+IsInLine n finds.Paragraph = Unit {0}
+IsInLine n finds.Invalid = Unit {0}
+IsInLine n finds.Nothing = Unit {0}

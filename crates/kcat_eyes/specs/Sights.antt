@@ -1,12 +1,12 @@
 -- What the eyes of an open file have before them.
 use Rattle.std.specs.Prelude.{◌≡◌, ℕ, ◌+◌, ◌≤◌, ◌<◌, Bool, true, false, List, [], length, drop, Option, Some, None, Result, Ok, Err}
-use Rattle.ts_outside.specs.Agreement.{Cause, Determined, Counted, Free, AgreesFault, ◌>>=◌}
+use Rattle.ts_base.specs.Agreement.{Cause, Determined, Counted, Free, AgreesFault, ◌>>=◌}
 use Rattle.jis_codes.specs.declared.character.Char.{Char}
 use Rattle.tok_lists.specs.declared.spelling.Spelling.{Spelling}
 use Rattle.tok_lists.specs.declared.token.Token.TheVariants as tokens
 use Rattle.input_codings.specs.declared.coding.Coding.{Coding}
 use Rattle.input_codings.specs.declared.fault.OpenFault.{OpenFault}
-use Rattle.input_codings.specs.Lines.{Unread, opened}
+use Rattle.input_codings.specs.Lines.{Unread, opened, most_lines}
 use Rattle.input_codings.specs.Reading.{LinesView, unread}
 use Rattle.kcat_eyes.specs.declared.fault.EyeFault.{EyeFault}
 use Rattle.kcat_eyes.specs.declared.fault.EyeFault.TheVariants as faults
@@ -14,7 +14,9 @@ use Rattle.kcat_eyes.specs.declared.seen.Seen.{Seen}
 use Rattle.kcat_eyes.specs.declared.seen.Seen.TheVariants as seen
 use Rattle.kcat_eyes.specs.declared.state.State.{State}
 use Rattle.kcat_eyes.specs.declared.state.State.TheVariants.{NewLine}
-use Rattle.kcat_eyes.specs.Eyes.{Codes, Sight, behind_line, next, needed_behind_line, needed_line}
+use Rattle.tok_lists.specs.Codes.{Codes}
+use Rattle.tok_lists.specs.Names.{Grew}
+use Rattle.kcat_eyes.specs.Eyes.{Sight, behind_line, next, needed_behind_line, needed_line}
 
 -- the lines of a file, the state, the rest of the present line, and whether the file ends after this line
 pub record EyesView : Type 0 where
@@ -75,9 +77,14 @@ IsSeen names (seen.Token (tokens.Kept name)) = ⊥
 IsSeen names (seen.Token (tokens.Param n)) = ⊥
 IsSeen names seen.End = Unit {0}
 
+-- What is seen is held by the names, which grew; after a fault they are as they were.
+abbrev pub SeesNames : Result Seen EyeFault → List Spelling → List Spelling → Type 0
+SeesNames (Ok seen) old new = IsSeen new seen × Grew old new
+SeesNames (Err fault) old new = new ≡ old
+
 -- the number of lines after a turn
 abbrev pub CountsTurn : Result Bool EyeFault → ℕ → ℕ → Type 0
-CountsTurn (Ok true) old new = new ≡ old + 1
+CountsTurn (Ok true) old new = (new ≡ old + 1) × (new ≤ most_lines)
 CountsTurn (Ok false) old new = new ≡ old
 CountsTurn (Err e) old new = (old ≤ new) × (new ≤ old + 1)
 

@@ -1,12 +1,13 @@
 //! The eyes of an open file.
 
 ghost use Rattle.std.specs.Prelude.{◌≡◌, ◌≢◌, ◌≤◌, ◌+◌, true, false, length, drop, IsSome, Some, Option, is_err, Ok, Err, Bool, Result, OnOk, OnErr, IfOk, IfSome};
-ghost use Rattle.tok_lists.specs.Names.{KeepsNumbers};
-ghost use Rattle.ts_outside.specs.Agreement.{Agrees, Counts};
-ghost use Rattle.ts_outside.specs.Reading.{KeepsOthers, KeepsAll, bytes_of};
+ghost use Rattle.ts_base.specs.Agreement.{Agrees, Counts};
+ghost use Rattle.ts_outside.specs.States.{OpensIfOk, ReadsOn, Closes};
+ghost use Rattle.ts_outside.specs.Reading.{bytes_of};
+ghost use Rattle.input_codings.specs.Reading.{IsReadOn};
 ghost use Rattle.kcat_eyes.specs.Eyes.{next as the_next, needed_line};
-ghost use Rattle.kcat_eyes.specs.Finds.{codes_by, glance_of, IsWithin};
-ghost use Rattle.kcat_eyes.specs.Sights.{line_in, sight_of, eye_cause, first_sight, EndsAtLine, IsSeen};
+ghost use Rattle.kcat_eyes.specs.Finds.{glance_of, IsInLine};
+ghost use Rattle.kcat_eyes.specs.Sights.{line_in, sight_of, eye_cause, first_sight, EndsAtLine, SeesNames};
 ghost use Rattle.input_codings.specs.Lines.{open_cause};
 
 use crate::fault::EyeFault;
@@ -56,15 +57,15 @@ impl Eyes {
         name: &FileName,
         coding: Coding,
     ) -> Result<Eyes, OpenFault>
-        ensures opens { IfSome (F.held files.old) (λ held. Agrees (λ eyes. sight_of eyes (F.left files.new eyes.lines.file)) open_cause result (first_sight coding (bytes_of held name.now))) }
-        ensures told { IfOk result (λ eyes. IsSome (F.held files.old) → IsSome (F.left files.new eyes.lines.file)) }
+        ensures opens { IfSome (F.state files.old).held (λ held.
+            Agrees (λ eyes. sight_of eyes ((F.state files.new).left eyes.lines.file)) open_cause
+            result (first_sight coding (bytes_of held name.now))) }
+        ensures told { IfOk result (λ eyes. IsSome (F.state files.old).held
+            → IsSome ((F.state files.new).left eyes.lines.file)) }
         ensures unfailed { IfOk result (λ eyes. eyes.lines.failed ≡ false) }
-        ensures fresh { IfOk result (λ eyes. F.is_open files.old eyes.lines.file ≡ false) }
-        ensures open { IfOk result (λ eyes. F.is_open files.new eyes.lines.file ≡ true) }
-        ensures others { IfOk result (λ eyes. KeepsOthers eyes.lines.file (F.is_open files.old) (F.left files.old) (F.is_open files.new) (F.left files.new)) }
-        ensures refused { OnErr result (KeepsAll (F.is_open files.old) (F.left files.old) (F.is_open files.new) (F.left files.new)) }
-        ensures held { F.held files.new ≡ F.held files.old }
-        ensures counted { Counts open_cause result (F.faults files.old) (F.faults files.new) }
+        ensures leaves { OpensIfOk (λ eyes. eyes.lines.file) result (F.state files.old)
+            (F.state files.new) }
+        ensures counted { Counts open_cause result (F.state files.old).faults (F.state files.new).faults }
     {
         let lines = Lines::open(alloc, files, name, coding)?;
         let present = Present {
@@ -79,9 +80,10 @@ impl Eyes {
         })
     }
 
-    /// The number of the last line that was needed and is there, or 0 before the first.
+    /// Returns the number of the last line that was needed and is there, or 0 before the first.
     pub fn line_no(&self) -> u32
-        ensures { result ≡ self.now.lines.line_no }
+        ensures value { result ≡ self.now.lines.line_no }
+        ensures most { self.now.lines.failed ≡ false → result ≤ 1000000 }
     {
         self.lines.line_no()
     }
@@ -96,11 +98,9 @@ impl Eyes {
 
     /// Closes the file.
     pub fn close<F: Files>(self, files: &mut F)
-        requires { F.is_open files.old self.lines.file ≡ true }
-        ensures closed { F.is_open files.new self.lines.file ≡ false }
-        ensures others { KeepsOthers self.lines.file (F.is_open files.old) (F.left files.old) (F.is_open files.new) (F.left files.new) }
-        ensures held { F.held files.new ≡ F.held files.old }
-        ensures counted { F.faults files.new ≡ F.faults files.old }
+        requires { (F.state files.old).is_open self.lines.file ≡ true }
+        ensures closes { Closes self.lines.file (F.state files.old) (F.state files.new) }
+        ensures counted { (F.state files.new).faults ≡ (F.state files.old).faults }
     {
         self.lines.close(files);
     }
@@ -112,29 +112,22 @@ impl Eyes {
         codes: &C,
         names: &mut Names,
     ) -> Result<Seen, EyeFault>
-        requires open { F.is_open files.old self.old.lines.file ≡ true }
+        requires open { (F.state files.old).is_open self.old.lines.file ≡ true }
         requires unfailed { self.old.lines.failed ≡ false }
-        ensures exact { IsSome (F.left files.old self.old.lines.file)
-            → Agrees (λ seen. record { seen = seen; names = names.new; sight = sight_of self.new (F.left files.new self.old.lines.file) }) eye_cause result
-            (the_next (codes_by (C.cat_of codes.now) (C.kcat_of codes.now)) names.old (sight_of self.old (F.left files.old self.old.lines.file))) }
-        ensures place { IsSome (F.left files.old self.old.lines.file)
-            → EndsAtLine result self.new.lines.line_no (needed_line (codes_by (C.cat_of codes.now) (C.kcat_of codes.now)) (sight_of self.old (F.left files.old self.old.lines.file))) }
-        ensures told { IsSome (F.left files.old self.old.lines.file) → IsSome (F.left files.new self.old.lines.file) }
-        ensures rises { self.old.lines.line_no ≤ self.new.lines.line_no }
-        ensures file { self.new.lines.file ≡ self.old.lines.file }
-        ensures open { F.is_open files.new self.old.lines.file ≡ true }
-        ensures others { KeepsOthers self.old.lines.file (F.is_open files.old) (F.left files.old) (F.is_open files.new) (F.left files.new) }
-        ensures held { F.held files.new ≡ F.held files.old }
+        ensures exact { IsSome ((F.state files.old).left self.old.lines.file)
+            → Agrees (λ seen. record { seen = seen; names = names.new; sight = sight_of self.new ((F.state files.new).left self.old.lines.file) }) eye_cause result
+            (the_next (C.codes codes.now) names.old (sight_of self.old ((F.state files.old).left self.old.lines.file))) }
+        ensures place { IsSome ((F.state files.old).left self.old.lines.file)
+            → EndsAtLine result self.new.lines.line_no (needed_line (C.codes codes.now)
+            (sight_of self.old ((F.state files.old).left self.old.lines.file))) }
+        ensures lines { IsReadOn self.old.lines self.new.lines }
         ensures unfailed { OnOk result (self.new.lines.failed ≡ false) }
-        ensures spelt { IfOk result (IsSeen names.new) }
-        ensures kept { KeepsNumbers names.old names.new }
-        ensures refused { OnErr result (names.new ≡ names.old) }
-        ensures counted { Counts eye_cause result (F.faults files.old) (F.faults files.new) }
+        ensures names { SeesNames result names.old names.new }
+        ensures reads { ReadsOn self.old.lines.file (F.state files.old) (F.state files.new) }
+        ensures counted { Counts eye_cause result (F.state files.old).faults (F.state files.new).faults }
     {
         let mut found = find(&self.present, codes);
         while is_nothing(found) {
-            // The number of a line is bounded, so the loop ends.
-            let _line_no = self.lines.line_no();
             if !turn(&mut self.present, &mut self.lines, self.ends, files)? {
                 return Ok(Seen::End);
             }

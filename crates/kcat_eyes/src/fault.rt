@@ -1,6 +1,11 @@
 //! Why a token isn't given.
 
+ghost use Rattle.std.specs.Prelude.{◌≡◌};
+ghost use Rattle.kcat_eyes.specs.Eyes.{eye_fault, name_fault};
+
+use input_codings::LineFault;
 use thiserror::Error;
+use tok_lists::NamesFault;
 
 /// Why the next token isn't given.
 #[derive(Clone, Copy, Debug, Drop, PartialEq, Eq, Error)]
@@ -25,4 +30,29 @@ pub enum EyeFault {
     ReadFault,
     #[error("out of memory")]
     NoMemory,
+}
+
+impl From<LineFault> for EyeFault {
+    ghost from_gives = { λ of_line of_eyes. of_eyes ≡ eye_fault of_line };
+
+    fn from(fault: LineFault) -> EyeFault {
+        match fault {
+            LineFault::TooManyLines => EyeFault::TooManyLines,
+            LineFault::LineTooLong => EyeFault::LineTooLong,
+            LineFault::BadByte(place) => EyeFault::BadByte(place),
+            LineFault::ReadFault => EyeFault::ReadFault,
+            LineFault::NoMemory => EyeFault::NoMemory,
+        }
+    }
+}
+
+impl From<NamesFault> for EyeFault {
+    ghost from_gives = { λ of_names of_eyes. of_eyes ≡ name_fault of_names };
+
+    fn from(fault: NamesFault) -> EyeFault {
+        match fault {
+            NamesFault::NamesFull => EyeFault::NamesFull,
+            NamesFault::NoMemory => EyeFault::NoMemory,
+        }
+    }
 }

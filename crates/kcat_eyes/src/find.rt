@@ -3,7 +3,7 @@
 ghost use Rattle.std.specs.Prelude.{◌≡◌, ◌≤◌, ◌<◌, ◌+◌, ◌-◌, List, ℕ, IfSome, get_or, length, drop};
 ghost use Rattle.jis_codes.specs.declared.character.Char.TheVariants.{One};
 ghost use Rattle.kcat_eyes.specs.Eyes.{Glance, is_letter as is_a_letter, letters as the_letters, after_symbol as the_state_after_symbol, escaped as what_is_escaped, line_end as the_line_end, blank as the_blank, after_brace as the_state_after_brace, of_category as what_is_of_category, met as what_is_met, in_line as what_is_in_line};
-ghost use Rattle.kcat_eyes.specs.Finds.{codes_by, glance_of, or_skipped, IsWithin};
+ghost use Rattle.kcat_eyes.specs.Finds.{glance_of, or_skipped, IsInLine};
 
 use crate::state::State;
 use jis_codes::Char;
@@ -27,7 +27,7 @@ pub(crate) enum Find {
 }
 
 fn is_letter<C: CodeTable>(codes: &C, character: Char) -> bool
-    ensures { result ≡ is_a_letter (codes_by (C.cat_of codes.now) (C.kcat_of codes.now)) character }
+    ensures { result ≡ is_a_letter (C.codes codes.now) character }
 {
     match character {
         Char::One(code) => codes.cat(code) == 11,
@@ -40,7 +40,7 @@ fn is_letter<C: CodeTable>(codes: &C, character: Char) -> bool
 
 // How many letters are at the front.
 fn letters<C: CodeTable>(codes: &C, rest: &[Char]) -> usize
-    ensures value { result ≡ the_letters (codes_by (C.cat_of codes.now) (C.kcat_of codes.now)) rest.now }
+    ensures value { result ≡ the_letters (C.codes codes.now) rest.now }
     ensures within { result ≤ length rest.now }
 {
     let mut count = 0;
@@ -54,7 +54,7 @@ fn letters<C: CodeTable>(codes: &C, rest: &[Char]) -> usize
 }
 
 fn after_symbol<C: CodeTable>(codes: &C, character: Char) -> State
-    ensures { result ≡ the_state_after_symbol (codes_by (C.cat_of codes.now) (C.kcat_of codes.now)) character }
+    ensures { result ≡ the_state_after_symbol (C.codes codes.now) character }
 {
     match character {
         Char::One(code) if codes.cat(code) == 10 => State::SkipBlanks,
@@ -66,8 +66,8 @@ fn after_symbol<C: CodeTable>(codes: &C, character: Char) -> State
 // What stands behind an escape.
 fn escaped<C: CodeTable>(codes: &C, line: &[Char], at: usize) -> Find
     requires { at ≤ length line.now }
-    ensures value { glance_of line.now result ≡ what_is_escaped (codes_by (C.cat_of codes.now) (C.kcat_of codes.now)) (drop at line.now) }
-    ensures places { IsWithin (length line.now) result }
+    ensures value { glance_of line.now result ≡ what_is_escaped (C.codes codes.now) (drop at line.now) }
+    ensures places { IsInLine (length line.now) result }
 {
     let rest = &line[at..];
     match rest {
@@ -82,7 +82,7 @@ fn escaped<C: CodeTable>(codes: &C, line: &[Char], at: usize) -> Find
 // The end of a line of so many characters.
 fn line_end(state: State, line: &[Char]) -> Find
     ensures value { glance_of line.now result ≡ the_line_end state }
-    ensures places { IsWithin (length line.now) result }
+    ensures places { IsInLine (length line.now) result }
 {
     match state {
         State::NewLine => Find::Paragraph,
@@ -103,7 +103,7 @@ fn after_brace(state: State) -> State
 // A blank, with the place behind it, where it isn't skipped.
 fn blank(state: State, at: usize) -> Option<Find>
     ensures value { (line : List Char) (skipped : Glance) → or_skipped line result skipped ≡ the_blank state (drop at line) skipped }
-    ensures places { (n : ℕ) → at ≤ n → IfSome result (IsWithin n) }
+    ensures places { (n : ℕ) → at ≤ n → IfSome result (IsInLine n) }
 {
     match state {
         State::NewLine | State::SkipBlanks => None,
@@ -123,8 +123,8 @@ fn of_category<C: CodeTable>(
     requires most { at ≤ length line.now }
     requires here { One code ≡ get_or line.now (at - 1) (One code) }
     ensures value { (skipped : Glance) → or_skipped line.now result skipped
-        ≡ what_is_of_category (codes_by (C.cat_of codes.now) (C.kcat_of codes.now)) state code (C.cat_of codes.now code) (drop at line.now) skipped }
-    ensures places { IfSome result (IsWithin (length line.now)) }
+        ≡ what_is_of_category (C.codes codes.now) state code ((C.codes codes.now).cat code) (drop at line.now) skipped }
+    ensures places { IfSome result (IsInLine (length line.now)) }
 {
     match codes.cat(code) {
         0 => Some(escaped(codes, line, at)),
@@ -145,8 +145,8 @@ fn met<C: CodeTable>(codes: &C, state: State, first: Char, line: &[Char], at: us
     requires most { at ≤ length line.now }
     requires here { first ≡ get_or line.now (at - 1) first }
     ensures value { (skipped : Glance) → or_skipped line.now result skipped
-        ≡ what_is_met (codes_by (C.cat_of codes.now) (C.kcat_of codes.now)) state first (drop at line.now) skipped }
-    ensures places { IfSome result (IsWithin (length line.now)) }
+        ≡ what_is_met (C.codes codes.now) state first (drop at line.now) skipped }
+    ensures places { IfSome result (IsInLine (length line.now)) }
 {
     match first {
         Char::One(code) => of_category(codes, state, code, line, at),
@@ -157,8 +157,8 @@ fn met<C: CodeTable>(codes: &C, state: State, first: Char, line: &[Char], at: us
 /// What stands next in a line from a place on.
 pub(crate) fn in_line<C: CodeTable>(codes: &C, state: State, line: &[Char], at: usize) -> Find
     requires { at ≤ length line.now }
-    ensures value { glance_of line.now result ≡ what_is_in_line (codes_by (C.cat_of codes.now) (C.kcat_of codes.now)) state (drop at line.now) }
-    ensures places { IsWithin (length line.now) result }
+    ensures value { glance_of line.now result ≡ what_is_in_line (C.codes codes.now) state (drop at line.now) }
+    ensures places { IsInLine (length line.now) result }
 {
     for place in at..line.len() {
         if let Some(find) = met(codes, state, line[place], line, place + 1) {

@@ -16,9 +16,9 @@ use ts_outside::{FileName, Files, MemFile, MemFiles};
 struct Start;
 
 impl CodeTable for Start {
-    ghost cat_of = { λ _ code. start_cat code };
+    ghost codes = { λ _. record { cat = start_cat; kcat = start_kcat } };
 
-    ghost kcat_of = { λ _ cell. start_kcat cell };
+    ghost bounds = { λ _. ? };
 
     fn cat(&self, code: u8) -> u8 {
         match code {
@@ -124,7 +124,7 @@ fn opened(alloc: Global, bytes: &[u8]) -> Result<(MemFiles, Eyes), Fail>
 
 // The tokens that are left up to the end, with the start names and the codes of the start.
 fn tokens_left<F: Files>(alloc: Global, mut eyes: Eyes, files: &mut F) -> Result<Tokens, Fail>
-    requires open { F.is_open files.old eyes.lines.file ≡ true }
+    requires open { (F.state files.old).is_open eyes.lines.file ≡ true }
     requires unfailed { eyes.lines.failed ≡ false }
 {
     let mut names = Names::new(alloc)?;

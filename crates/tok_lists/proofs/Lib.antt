@@ -1,3 +1,4 @@
 pub mod Same
 pub mod Numbered
+pub mod Growing
 mod Examples

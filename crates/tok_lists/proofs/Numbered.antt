@@ -1,14 +1,16 @@
 -- Names that are distinct have one number each, and a spelling stands at its number.
 use Rattle.std.proofs.Common.{◌≡◌, ℕ, ◌<◌, Bool, true, false, List, [], ◌∷◌, ◌++◌, length, get_or, slice_get, position, Some, refl, arith, if◌then◌else◌}
 use Rattle.std.proofs.lemmas.Grind.{common_steps}
-use Rattle.std.proofs.lemmas.Option.{slice_get_within, get_or_from_slice_get, slice_get_read, gets}
+use Rattle.std.proofs.lemmas.Option.{slice_get_within, get_or_from_slice_get, slice_get_read}
 use Rattle.std.proofs.lemmas.List.Quantifiers.{position-Some}
 use Rattle.std.proofs.lemmas.Map.Keys.{apart_from_distinct}
+use Rattle.std.proofs.lemmas.List.{take_all}
+use Rattle.std.proofs.Math.Seq.{take-append_seam}
 use Rattle.std.specs.List.{IsDistinct}
 use Rattle.tok_lists.specs.declared.spelling.Spelling.{Spelling}
 use Rattle.tok_lists.specs.Same.{is_same}
 use Rattle.tok_lists.specs.Equality.{is_same-decides}
-use Rattle.tok_lists.specs.Names.{number_in, is_known, with_name, KeepsNumbers, HaveOneNumberEach}
+use Rattle.tok_lists.specs.Names.{number_in, is_known, with_name, Grew, HaveOneNumberEach}
 
 itself : (s : Spelling) → is_same s s ≡ true
 itself s = (is_same-decides s s).1 refl
@@ -43,12 +45,9 @@ found names s n at =
     let first = position-Some (is_same s) names n s at in
     slice_get_read names (length names) n s refl first.0 ((is_same-decides s (get_or names n s)).0 first.1)
 
-keeps_before_one : (names : List Spelling) (s : Spelling) (n : ℕ) → n < length names → slice_get (names ++ s ∷ []) n ≡ slice_get names n
-keeps_before_one names s n within = grind (arith, common_steps, gets)
+grown_either : (b : Bool) (names : List Spelling) (s : Spelling) → Grew names (if b then names else names ++ s ∷ [])
+grown_either true names s = take_all (length names) names (omega arith)
+grown_either false names s = take-append_seam names (s ∷ [])
 
-keeps_either : (b : Bool) (names : List Spelling) (s : Spelling) → KeepsNumbers names (if b then names else names ++ s ∷ [])
-keeps_either true names s n within = refl
-keeps_either false names s n within = keeps_before_one names s n within
-
-pub keeps_numbers : (names : List Spelling) (s : Spelling) → KeepsNumbers names (with_name names s)
-keeps_numbers names s = keeps_either (is_known names s) names s
+pub grown : (names : List Spelling) (s : Spelling) → Grew names (with_name names s)
+grown names s = grown_either (is_known names s) names s

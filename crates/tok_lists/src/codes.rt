@@ -7,38 +7,39 @@ use jis_codes::Cell;
 /// The categories of characters of one byte (The TeXbook, chapter 7) and the kinds of Japanese
 /// characters (pTeX: 16 kanji, 17 kana, 18 other).
 pub trait CodeTable {
-    ghost use Rattle.std.specs.Prelude.{ℕ};
-    ghost use Rattle.jis_codes.specs.Kuten.{Kuten};
+    ghost use Rattle.tok_lists.specs.Codes.{Codes, AreCodes};
 
-    // the category of a code
-    ghost cat_of: { Self → ℕ → ℕ };
+    /// The category of each code, and the kind of each cell.
+    ghost codes: { Self → Codes };
 
-    // the kind of a cell
-    ghost kcat_of: { Self → Kuten → ℕ };
-
-    /// The category of a code, from 0 to 15.
+    /// Returns the category of a code, from 0 to 15.
     fn cat(&self, code: u8) -> u8
-        ensures value { result ≡ cat_of self.now code }
+        ensures value { result ≡ (codes self.now).cat code }
         ensures most { result ≤ 15 };
 
-    /// The kind of a cell, from 16 to 18.
+    /// Returns the kind of a cell, from 16 to 18.
     fn kcat(&self, cell: Cell) -> u8
-        ensures value { result ≡ kcat_of self.now cell }
+        ensures value { result ≡ (codes self.now).kcat cell }
         ensures least { 16 ≤ result }
         ensures most { result ≤ 18 };
+
+    /// Categories are from 0 to 15, and kinds from 16 to 18.
+    ghost bounds: { (table : Self) → AreCodes (codes table) };
 }
 
 #[cfg(test)]
 mod tests {
     use super::*;
+    ghost use Rattle.std.proofs.Common.{lit≤};
+
     use std::test::Fail;
 
     struct AllOther;
 
     impl CodeTable for AllOther {
-        ghost cat_of = { λ _ _. 12 };
+        ghost codes = { λ _. record { cat = λ _. 12; kcat = λ _. 18 } };
 
-        ghost kcat_of = { λ _ _. 18 };
+        ghost bounds = { λ _. (λ _. lit≤ tt, λ _. (lit≤ tt, lit≤ tt)) };
 
         fn cat(&self, _code: u8) -> u8 {
             12

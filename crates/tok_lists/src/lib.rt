@@ -3,7 +3,7 @@
 
 mod codes;
 mod fault;
-mod lists;
+mod laws;
 mod names;
 mod spelling;
 mod start;
@@ -11,8 +11,7 @@ mod token;
 
 pub use codes::CodeTable;
 pub use fault::NamesFault;
-pub use lists::{Chars, Tokens};
+pub use laws::names_grow;
 pub use names::Names;
 pub use spelling::Spelling;
-pub use token::{NameNo, Token};
-pub use ts_lists::NoMemory;
+pub use token::{NameNo, Token, Tokens};

@@ -2,22 +2,21 @@
 
 ghost use Rattle.std.specs.Prelude.{◌≡◌, ◌<◌, ◌≤◌, [], length, map, slice_get, fold, Some, IfOk, OnOk, OnErr};
 ghost use Rattle.std.specs.List.{IsDistinct};
-ghost use Rattle.ts_outside.specs.Agreement.{Agrees};
+ghost use Rattle.ts_base.specs.Agreement.{Agrees};
 ghost use Rattle.tok_lists.specs.Same.{is_same};
-ghost use Rattle.tok_lists.specs.Names.{number_in, with_name, numbered, names_cause, AreFewAndDistinct, KeepsNumbers, HaveOneNumberEach};
+ghost use Rattle.tok_lists.specs.Names.{number_in, with_name, numbered, names_cause, AreFewAndDistinct, Grew, HaveOneNumberEach};
 ghost use Rattle.tok_lists.specs.StartNames.{start_names, control_word};
 
 use crate::fault::NamesFault;
-use crate::lists::Chars;
 use crate::spelling::Spelling;
 use crate::start::START_WORDS;
 use crate::token::NameNo;
 use indexmap::IndexSet;
-use jis_codes::Char;
+use jis_codes::{Char, Chars};
 use std::alloc::Global;
 use std::marker::Model;
 use std::mem;
-use ts_lists::NoMemory;
+use ts_base::NoMemory;
 
 /// How many names there may be, those of the start counted.
 const MOST_NAMES: usize = 50_000;
@@ -66,10 +65,8 @@ fn enter(spellings: &mut IndexSet<Spelling>, spelling: Spelling) -> Result<usize
     ensures within { IfOk result (λ n. n < length spellings.new.keys) }
     ensures distinct { IsDistinct is_same spellings.new.keys }
 {
-    match spellings.insert_full(spelling) {
-        Ok((number, _)) => Ok(number),
-        Err(_) => Err(NoMemory),
-    }
+    let (number, _) = spellings.insert_full(spelling)?;
+    Ok(number)
 }
 
 /// The control words of these texts, in their order, each once.
@@ -93,7 +90,7 @@ fn blank(alloc: Global) -> Spelling {
 }
 
 /// The number of the spelling that is sought, which is taken where it is new.
-#[tactic(auto, using(crate::proofs::Numbered::spelt, crate::proofs::Numbered::keeps_numbers))]
+#[tactic(auto, using(crate::proofs::Numbered::spelt, crate::proofs::Numbered::grown))]
 fn number_of(
     alloc: Global,
     spellings: &mut IndexSet<Spelling>,
@@ -104,7 +101,7 @@ fn number_of(
     ensures ok { OnOk result (spellings.new.keys ≡ with_name spellings.old.keys sought.old) }
     ensures err { OnErr result (spellings.new.keys ≡ spellings.old.keys) }
     ensures spelt { IfOk result (λ n. slice_get spellings.new.keys n.0 ≡ Some sought.old) }
-    ensures kept { KeepsNumbers spellings.old.keys spellings.new.keys }
+    ensures grew { Grew spellings.old.keys spellings.new.keys }
     ensures few { AreFewAndDistinct spellings.new.keys }
 {
     if let Some(number) = spellings.get_index_of(&*sought) {
@@ -114,10 +111,8 @@ fn number_of(
         return Err(NamesFault::NamesFull);
     }
     let spelling = mem::replace(sought, blank(alloc));
-    match enter(spellings, spelling) {
-        Ok(number) => Ok(NameNo(number as u32)),
-        Err(_) => Err(NamesFault::NoMemory),
-    }
+    let number = enter(spellings, spelling)?;
+    Ok(NameNo(number as u32))
 }
 
 impl Names {
@@ -141,14 +136,20 @@ impl Names {
         ensures ok { OnOk result (self.new ≡ with_name self.old (record { active = active; chars = chars.now })) }
         ensures err { OnErr result (self.new ≡ self.old) }
         ensures spelt { IfOk result (λ n. slice_get self.new n.0 ≡ Some (record { active = active; chars = chars.now })) }
-        ensures kept { KeepsNumbers self.old self.new }
+        ensures grew { Grew self.old self.new }
         ensures distinct { HaveOneNumberEach self.new }
     {
         self.sought.active = active;
-        if self.sought.chars.refill(chars).is_err() {
-            return Err(NamesFault::NoMemory);
-        }
+        self.sought.chars.refill(chars)?;
         number_of(self.alloc, &mut self.spellings, &mut self.sought)
+    }
+
+    /// Returns how many names there are, at most 50,000.
+    pub fn len(&self) -> usize
+        ensures value { result ≡ length self.now }
+        ensures most { result ≤ 50000 }
+    {
+        self.spellings.len()
     }
 
     /// The spelling of a name that has a number here.

@@ -7,8 +7,7 @@ ghost use Rattle.std.proofs.Common.{ap};
 ghost use Rattle.tok_lists.specs.Same.{is_same};
 ghost use Rattle.tok_lists.specs.Equality.{is_same-equiv, is_same-decides};
 
-use crate::lists::Chars;
-use jis_codes::Char;
+use jis_codes::{Char, Chars};
 use std::hash::{Hash, Hasher};
 
 /// How a name is spelt: an active character, or the characters behind an escape. They are two

@@ -1,6 +1,7 @@
 //! Tokens.
 
 use jis_codes::Cell;
+use ts_base::List;
 
 /// The number of a name, counted from 0 in the order in which names came.
 #[derive(Clone, Copy, Debug, PartialEq, Eq, Hash)]
@@ -21,3 +22,6 @@ pub enum Token {
     /// A parameter of a macro's body: #1 to #9.
     Param(u8),
 }
+
+/// A list of tokens.
+pub type Tokens = List<Token>;

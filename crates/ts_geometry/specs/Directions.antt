@@ -6,7 +6,7 @@ use Rattle.ts_geometry.specs.declared.measure.Sp.{Sp}
 use Rattle.ts_geometry.specs.declared.measure.Point.{Point}
 use Rattle.ts_geometry.specs.declared.measure.Measures.{Measures}
 use Rattle.ts_geometry.specs.declared.measure.Rect.{Rect}
-use Rattle.ts_geometry.specs.Numbers.{IsWithin}
+use Rattle.ts_geometry.specs.Numbers.{IsWithin, far}
 
 abbrev pub sp : ℤ → Sp
 sp z = record { 0 = z }
@@ -43,10 +43,10 @@ extent r = point (r.right.0 -ℤ r.left.0) (r.bottom.0 -ℤ r.top.0)
 -- ---- the numbers for which the calls work
 
 pub record PointIsWithin (p : Point) : Type 0 where
-  pub x : IsWithin p.x.0
-  pub y : IsWithin p.y.0
+  pub x : IsWithin far p.x.0
+  pub y : IsWithin far p.y.0
 
 pub record MeasuresAreWithin (m : Measures) : Type 0 where
-  pub wd : IsWithin m.wd.0
-  pub ht : IsWithin m.ht.0
-  pub dp : IsWithin m.dp.0
+  pub wd : IsWithin far m.wd.0
+  pub ht : IsWithin far m.ht.0
+  pub dp : IsWithin far m.dp.0

@@ -2,9 +2,17 @@
 use Rattle.std.specs.Prelude.{ℕ, suc, ◌+◌, ◌*◌, ◌/◌, ◌^◌, ◌==◌, ℤ, pos, negsuc, ◌*ℤ◌, ◌≤ℤ◌, neg_ℤ, unsigned_abs, nat_le, int_le, List, [], ◌∷◌, take, if◌then◌else◌}
 use Rattle.std.specs.Int.{int_min, int_max}
 
--- the distances within which the calls of this crate work: 2^60 scaled points
-abbrev pub IsWithin : ℤ → Type 0
-IsWithin z = (neg_ℤ (pos (2 ^ 60)) ≤ℤ z) × (z ≤ℤ pos (2 ^ 60))
+-- A number is at most so far from 0.
+abbrev pub IsWithin : ℕ → ℤ → Type 0
+IsWithin most z = (neg_ℤ (pos most) ≤ℤ z) × (z ≤ℤ pos most)
+
+-- the greatest dimension of a source, 2^30 - 1 scaled points (The TeXbook, chapter 10)
+abbrev pub max_dimen : ℕ
+max_dimen = 1073741823
+
+-- within which the calls of this crate work
+abbrev pub far : ℕ
+far = 2 ^ 60
 
 -- ---- badness
 

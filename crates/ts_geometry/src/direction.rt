@@ -1,6 +1,6 @@
 //! Directions of writing.
 ghost use Rattle.std.specs.Prelude.{◌≡◌};
-ghost use Rattle.ts_geometry.specs.Numbers.{IsWithin};
+ghost use Rattle.ts_geometry.specs.Numbers.{IsWithin, far};
 ghost use Rattle.ts_geometry.specs.Directions.{step, rect, PointIsWithin, MeasuresAreWithin};
 
 use crate::measure::{Measures, Point, Rect, Sp};
@@ -18,8 +18,8 @@ pub enum Dir {
 /// `p`. Across is where the next line lies: down in yoko, to the left in tate, to the right in dtou.
 pub fn step(p: Point, dir: Dir, along: Sp, across: Sp) -> Point
     requires p_within { PointIsWithin p }
-    requires along_within { IsWithin along.0 }
-    requires across_within { IsWithin across.0 }
+    requires along_within { IsWithin far along.0 }
+    requires across_within { IsWithin far across.0 }
     ensures { result ≡ step p dir along across }
 {
     match dir {

@@ -15,5 +15,5 @@ pub use crossing::{inner_point, seen};
 pub use direction::{Dir, rect, step};
 pub use fault::{BadKind, MetricFault};
 pub use glue::{Glue, Order};
-pub use measure::{Measures, Point, Rect, Sp};
+pub use measure::{MAX_DIMEN, Measures, Point, Rect, Sp};
 pub use numbers::{badness, decimal, scale, share};

@@ -1,6 +1,6 @@
 //! The arithmetic of typesetting.
 ghost use Rattle.std.specs.Prelude.{◌≡◌, ◌≢◌, ◌<◌, ◌^◌, ◌≤ℤ◌, ◌*ℤ◌, pos, All, unsigned_abs, ◌≤◌};
-ghost use Rattle.ts_geometry.specs.Numbers.{IsWithin, badness, badness_of_ratio, stretch_ratio, scale, decimal, half_units_before, bounded, rounded, nearest, share};
+ghost use Rattle.ts_geometry.specs.Numbers.{IsWithin, far, badness, badness_of_ratio, stretch_ratio, scale, decimal, half_units_before, bounded, rounded, nearest, share};
 
 /// The greatest size of a share, in scaled points.
 const GREATEST_SHARE: i128 = 1_000_000_000;
@@ -86,9 +86,9 @@ fn half_units_before(digit: u8, behind: u32) -> u32
 /// and no more than 10^9 from 0. All are in scaled points.
 pub fn share(part: i64, excess: i64, total: i64) -> i64
     requires total_is_not_0 { total ≢ pos 0 }
-    requires part_within { IsWithin part }
-    requires excess_within { IsWithin excess }
-    requires total_within { IsWithin total }
+    requires part_within { IsWithin far part }
+    requires excess_within { IsWithin far excess }
+    requires total_within { IsWithin far total }
     ensures { result ≡ share part excess total }
 {
     bounded(rounded(product(part, excess), total))
@@ -101,8 +101,8 @@ fn bounded(z: i128) -> i64
 }
 
 fn product(part: i64, excess: i64) -> i128
-    requires part_within { IsWithin part }
-    requires excess_within { IsWithin excess }
+    requires part_within { IsWithin far part }
+    requires excess_within { IsWithin far excess }
     ensures value { result ≡ part *ℤ excess }
     ensures bound { unsigned_abs result ≤ 2 ^ 120 }
 {
@@ -113,7 +113,7 @@ fn product(part: i64, excess: i64) -> i128
 fn rounded(n: i128, d: i64) -> i128
     requires d_is_not_0 { d ≢ pos 0 }
     requires n_within { unsigned_abs n ≤ 2 ^ 120 }
-    requires d_within { IsWithin d }
+    requires d_within { IsWithin far d }
     ensures value { result ≡ rounded n d }
     ensures bound { unsigned_abs result ≤ 2 ^ 122 }
 {

@@ -21,14 +21,16 @@ use Rattle.dvi_code.proofs.Drawing.{Draws-nil, Draws-cons, Draws-append}
 use Rattle.dvi_code.proofs.Saying.{says_push, says_right, says_down, says_set, says_pop}
 use Rattle.ts_job.specs.declared.writer.page.Glyph.{Glyph}
 use Rattle.ts_job.specs.Written.{right_bytes, down_bytes, set_bytes, glyph_bytes}
-use Rattle.ts_job.specs.Meant.{IsShort, FitsGlyph, IsWidth, mark_meant}
+use Rattle.std.specs.Option.{IsSomeAnd}
+use Rattle.ts_geometry.specs.Numbers.{IsWithin, max_dimen}
+use Rattle.ts_job.specs.Meant.{max_coordinate, FitsGlyph, mark_meant}
 
 abbrev pub glyph_said : Glyph → List Command
 glyph_said g = c.push ∷ c.right g.at.x.0 ∷ c.down g.at.y.0 ∷ c.set g.code ∷ c.pop ∷ []
 
 -- ---- bytes
 
-fits_short : (z : Sp) → IsShort z → FitsSigned w32 z.0
+fits_short : (z : Sp) → IsWithin max_coordinate z.0 → FitsSigned w32 z.0
 fits_short z short = omega (arith, ints)
 
 glyph_spelt : (g : Glyph) → FitsGlyph g → Spells (glyph_bytes g) (glyph_said g)
@@ -113,7 +115,7 @@ behind : (x y w : ℤ) → stepped (spot x y Yoko) w (pos 0) ≡ spot (x +ℤ w)
 behind x y w = spot_is _ _ _ _ refl (omega (arith, ints))
 
 -- a glyph with a width
-set_glyph : (f : FontDef) (g : Glyph) (width : Option Sp) (saved : List Spot) (marks : List Mark) → FitsGlyph g → IsWidth width
+set_glyph : (f : FontDef) (g : Glyph) (width : Option Sp) (saved : List Spot) (marks : List Mark) → FitsGlyph g → IsSomeAnd width (λ w. IsWithin max_dimen w.0)
     → (x : ℤ) × (glyph_set (pen g.at.x.0 g.at.y.0 saved (Some f) marks) f g.code width ≡ Ok (pen x g.at.y.0 saved (Some f) (marks ++ mark_meant f g ∷ [])))
 set_glyph f g None saved marks fits wide = absurd wide
 set_glyph f g (Some w) saved marks fits wide =
@@ -121,7 +123,7 @@ set_glyph f g (Some w) saved marks fits wide =
     let y : ℤ = g.at.y.0 in
     (x +ℤ w.0, moved_to (pen x y saved (Some f) marks) _ (x +ℤ w.0) y (mark_meant f g ∷ []) (behind x y w.0) (in_range (x +ℤ w.0) (omega (arith, ints, fits.x)) (omega (arith, ints, fits.x))) (in_range y (omega (arith, ints, fits.y)) (omega (arith, ints, fits.y))))
 
-glyph_drawn : (widths : Widths) (fonts : List FontDef) (f : FontDef) (g : Glyph) (marks : List Mark) → FitsGlyph g → IsWidth (widths f g.code)
+glyph_drawn : (widths : Widths) (fonts : List FontDef) (f : FontDef) (g : Glyph) (marks : List Mark) → FitsGlyph g → IsSomeAnd (widths f g.code) (λ width. IsWithin max_dimen width.0)
     → Draws widths fonts (pen (pos 0) (pos 0) [] (Some f) marks) (glyph_said g) (pen (pos 0) (pos 0) [] (Some f) (marks ++ mark_meant f g ∷ []))
 unfolding drawn
 glyph_drawn widths fonts f g marks fits wide =
@@ -145,7 +147,7 @@ glyph_drawn widths fonts f g marks fits wide =
     let same : (marks ++ []) ++ [] ≡ marks = append-nil (marks ++ []) ∙ append-nil marks in
     subst (λ (ms : List Mark). Draws widths fonts p0 (glyph_said g) (pen (pos 0) (pos 0) [] font (ms ++ mark_meant f g ∷ []))) same all
 
-pub glyphs_drawn : (widths : Widths) (fonts : List FontDef) (f : FontDef) (gs : List Glyph) (marks : List Mark) → AllByRecursion FitsGlyph gs → AllByRecursion (λ g. IsWidth (widths f g.code)) gs
+pub glyphs_drawn : (widths : Widths) (fonts : List FontDef) (f : FontDef) (gs : List Glyph) (marks : List Mark) → AllByRecursion FitsGlyph gs → AllByRecursion (λ g. IsSomeAnd (widths f g.code) (λ width. IsWithin max_dimen width.0)) gs
     → Draws widths fonts (pen (pos 0) (pos 0) [] (Some f) marks) (flat_map glyph_said gs) (pen (pos 0) (pos 0) [] (Some f) (marks ++ map (mark_meant f) gs))
 glyphs_drawn widths fonts f [] marks fits wide = rw (append-nil marks) (Draws-nil widths fonts (pen (pos 0) (pos 0) [] (Some f) marks))
 glyphs_drawn widths fonts f (g ∷ gs) marks fits wide =

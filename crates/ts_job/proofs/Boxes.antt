@@ -14,7 +14,8 @@ use Rattle.ts_job.specs.Form.{Form}
 use Rattle.ts_job.specs.Meaning.{width_of, glyphs_from, box_height, font_def, page_of}
 use Rattle.dvi_code.specs.declared.page.DviPage.{DviPage}
 use Rattle.dvi_code.specs.declared.fault.DviBad.{DviBad}
-use Rattle.ts_job.specs.Setting.{IsSmall, HasCell, GivesWidths}
+use Rattle.ts_geometry.specs.Numbers.{IsWithin}
+use Rattle.ts_job.specs.Setting.{most_of_one, HasCell, GivesWidths}
 use Rattle.ts_job.specs.Meant.{HasWidths, page_meant}
 use Rattle.dvi_code.specs.declared.font.FontDef.{FontDef}
 use Rattle.dvi_code.specs.Pages.{Widths}
@@ -36,7 +37,7 @@ greatest_more f cells i cell before size now lt is so_far one max =
 pub greatest_low : (before size now : ℤ) → now ≡ int_max before size → pos 0 ≤ℤ before → pos 0 ≤ℤ now
 greatest_low before size now is low = omega (arith, ints, int_max_is before size)
 
-pub greatest_high : (before size now : ℤ) → now ≡ int_max before size → before ≤ℤ pos 10485760 → IsSmall size → now ≤ℤ pos 10485760
+pub greatest_high : (before size now : ℤ) → now ≡ int_max before size → before ≤ℤ pos 10485760 → IsWithin most_of_one size → now ≤ℤ pos 10485760
 greatest_high before size now is high small = omega (arith, ints, int_max_is before size)
 
 -- the glyphs of one character more

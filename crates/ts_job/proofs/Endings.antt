@@ -11,7 +11,7 @@ use Rattle.ts_job.specs.declared.outcome.Outcome.{Outcome}
 use Rattle.ts_job.specs.declared.outcome.Outcome.TheVariants as outcomes
 use Rattle.ts_job.specs.declared.ending.Ending.TheVariants as endings
 use mathlib.Core.Logic.{inl, inr}
-use Rattle.ts_outside.specs.Agreement.{Rose}
+use Rattle.ts_base.specs.Agreement.{Rose}
 use Rattle.ts_job.specs.Promise.{IsEnding, EndsAs, CountsFiles, CountsSinks, IsComplete}
 use Rattle.ts_job.specs.Texts.{report_of}
 

@@ -10,7 +10,7 @@ use Rattle.std.proofs.lemmas.Cmp.{int_eq_equiv}
 use Rattle.std.proofs.lemmas.Bool.Decides.{nat_tests}
 use Rattle.std.proofs.lemmas.List.Elements.{recursion_from_All}
 use Rattle.ts_geometry.specs.declared.direction.Dir.TheVariants.{Yoko}
-use Rattle.ts_outside.specs.Agreement.{◌>>=◌}
+use Rattle.ts_base.specs.Agreement.{◌>>=◌}
 use Rattle.dvi_code.specs.declared.fault.DviBad.{DviBad}
 use Rattle.dvi_code.specs.declared.font.FontDef.{FontDef}
 use Rattle.dvi_code.specs.Fields.{unsigned, signed, counts}
@@ -25,7 +25,9 @@ use Rattle.dvi_code.proofs.Drawing.{Draws-cons}
 use Rattle.dvi_code.proofs.Saying.{says_eop, says_font_def, says_post, says_post_post}
 use Rattle.ts_job.specs.declared.writer.page.Glyph.{Glyph}
 use Rattle.ts_job.specs.Written.{HasNumbers, unit_bytes, preamble_bytes, bop_bytes, definition_bytes, glyph_bytes, page_bytes, post_bytes, post_post_bytes, fill_count, closing_bytes, end_bytes, file_bytes}
-use Rattle.ts_job.specs.Meant.{FitsGlyph, IsWidth, HasWidths, page_meant}
+use Rattle.std.specs.Option.{IsSomeAnd}
+use Rattle.ts_geometry.specs.Numbers.{IsWithin, max_dimen}
+use Rattle.ts_job.specs.Meant.{FitsGlyph, HasWidths, page_meant}
 use Rattle.ts_job.proofs.Body.{glyph_said, glyphs_spelt, length-glyphs, glyphs_inside, glyphs_drawn}
 
 -- ---- what the pieces say
@@ -214,7 +216,7 @@ length-preamble : length preamble_bytes ≡ 15
 unfolding preamble_bytes unit_bytes
 length-preamble = refl
 
-page_drawn : (widths : Widths) (f : FontDef) (gs : List Glyph) (places : List ℕ) → f.number ≡ pos 0 → AllByRecursion FitsGlyph gs → AllByRecursion (λ g. IsWidth (widths f g.code)) gs → page_of widths (sheet f gs places) ≡ Ok (page_meant f gs)
+page_drawn : (widths : Widths) (f : FontDef) (gs : List Glyph) (places : List ℕ) → f.number ≡ pos 0 → AllByRecursion FitsGlyph gs → AllByRecursion (λ g. IsSomeAnd (widths f g.code) (λ width. IsWithin max_dimen width.0)) gs → page_of widths (sheet f gs places) ≡ Ok (page_meant f gs)
 unfolding drawn
 page_drawn widths f gs places number fits wide =
     let chosen : Pen = record { spot = spot (pos 0) (pos 0) Yoko; saved = []; chosen = Some f; marks = [] } in
@@ -227,7 +229,7 @@ pub file_read : (widths : Widths) (f : FontDef) (gs : List Glyph) (high wide : �
 unfolding file_bytes pages_of
 file_read widths f gs high wide number sound has few h w fit widths_are =
     let fits : AllByRecursion FitsGlyph gs = recursion_from_All FitsGlyph gs fit in
-    let wides : AllByRecursion (λ g. IsWidth (widths f g.code)) gs = recursion_from_All (λ g. IsWidth (widths f g.code)) gs widths_are in
+    let wides : AllByRecursion (λ g. IsSomeAnd (widths f g.code) (λ width. IsWithin max_dimen width.0)) gs = recursion_from_All (λ g. IsSomeAnd (widths f g.code) (λ width. IsWithin max_dimen width.0)) gs widths_are in
     let front : List ℕ = preamble_bytes ++ page_bytes f gs in
     let end : List ℕ = end_bytes f (length front) high wide in
     let s1 : Shape = gap (negsuc 0) [] [] in

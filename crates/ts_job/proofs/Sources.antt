@@ -1,13 +1,16 @@
 -- Sources and their fonts, as they are read.
 use Rattle.std.proofs.Common.{◌≡◌, ◌≢◌, ℕ, ◌-◌, ◌/◌, ◌%◌, List, take, Bool, true, false, Option, Some, None, Result, Ok, Err, refl, ap, arith, cond}
 use Rattle.std.specs.Prelude.{nat_le}
+use Rattle.std.specs.Option.{ok_or}
 use Rattle.std.proofs.lemmas.Bool.Decides.{nat_tests}
 use Rattle.ts_geometry.specs.declared.fault.MetricFault.{MetricFault}
 use Rattle.jis_codes.specs.Kuten.{Kuten, IsKuten}
 use Rattle.jis_codes.specs.Spellings.{jis}
 use Rattle.jis_codes.specs.Numbers.{number_of}
-use Rattle.ts_outside.specs.Agreement.{◌>>=◌, Counts}
-use Rattle.ts_outside.specs.Reading.{Held, bytes_of}
+use Rattle.ts_base.specs.Agreement.{◌>>=◌, Counts, Uncounted}
+use Rattle.ts_base.proofs.Composing.{leaves_count}
+use Rattle.ts_outside.specs.States.{Held}
+use Rattle.ts_outside.specs.Reading.{bytes_of}
 use Rattle.ts_outside.specs.declared.name.NameFault.TheVariants.{BadName}
 use Rattle.ts_outside.specs.Names.{is_file_name}
 use Rattle.ts_outside.specs.Naming.{named}
@@ -20,12 +23,12 @@ use Rattle.ts_job.specs.declared.stop.Stop.TheVariants as stops
 use Rattle.ts_job.specs.Words.{Request}
 use Rattle.ts_job.specs.Form.{Form}
 use Rattle.ts_job.specs.Loading.{first_of}
-use Rattle.ts_job.specs.Meaning.{or_fault, source_form, font_metric, built, is_built, typeset, page_of, font_def, width_of, ten_points, stop_cause}
+use Rattle.ts_job.specs.Meaning.{source_form, font_metric, built, is_built, typeset, page_of, font_def, width_of, ten_points, stop_cause}
 use Rattle.ts_job.specs.Promise.{held_widths, width_by, width_in}
 use Rattle.ts_job.specs.Setting.{GivesWidths}
 
 -- the metric of the font, by the bytes that were read of it
-metric_read : (file : Option (List ℕ)) (bytes : List ℕ) → first_of 262140 file ≡ Ok bytes → ((whole : List ℕ) → take 262140 whole ≡ bytes → metric_of whole ≡ metric_of bytes) → (or_fault FileMissing 1 file >>= λ b. built (metric_of b)) ≡ built (metric_of bytes)
+metric_read : (file : Option (List ℕ)) (bytes : List ℕ) → first_of 262140 file ≡ Ok bytes → ((whole : List ℕ) → take 262140 whole ≡ bytes → metric_of whole ≡ metric_of bytes) → (ok_or file (stops.Fault FileMissing 1) >>= λ b. built (metric_of b)) ≡ built (metric_of bytes)
 metric_read None bytes read holds = absurd cc
 metric_read (Some file) bytes read holds =
     let first : take 262140 file ≡ bytes = cc in
@@ -43,11 +46,8 @@ named_is text name is = by_test (is_file_name text) is
     by_test false is = absurd cc
 
 -- What refuses without a read leaves the count.
-pub counts_quiet : {X : Type 0} (result : Result X Stop) (old new : ℕ) → result ≢ Err stops.ReadFault → new ≡ old → Counts stop_cause result old new
-counts_quiet (Ok x) old new quiet same = same
-counts_quiet (Err (stops.Fault kind line)) old new quiet same = same
-counts_quiet (Err stops.ReadFault) old new quiet same = absurd (quiet refl)
-counts_quiet (Err stops.NoMemory) old new quiet same = omega arith
+pub counts_quiet : {X : Type 0} (result : Result X Stop) (old new : ℕ) → Uncounted stop_cause result → new ≡ old → Counts stop_cause result old new
+counts_quiet result old new quiet same = rw same (leaves_count stop_cause result old quiet)
 
 -- ---- widths
 
@@ -73,7 +73,7 @@ width_read : (r : Result Metric MetricFault) (metric : Metric) (k : Kuten) → I
 width_read (Err fault) metric k there is = absurd cc
 width_read (Ok m) metric k there is = width_if_built m metric k (is_built m) there is
 
-width_held : (file : Option (List ℕ)) (metric : Metric) (k : Kuten) → IsKuten k → (or_fault FileMissing 1 file >>= λ b. built (metric_of b)) ≡ Ok metric → width_by ten_points (number_of jis k) file ≡ Some (record { 0 = width_of metric k })
+width_held : (file : Option (List ℕ)) (metric : Metric) (k : Kuten) → IsKuten k → (ok_or file (stops.Fault FileMissing 1) >>= λ b. built (metric_of b)) ≡ Ok metric → width_by ten_points (number_of jis k) file ≡ Some (record { 0 = width_of metric k })
 width_held None metric k there is = absurd cc
 width_held (Some file) metric k there is = width_read (metric_of file) metric k there is
 

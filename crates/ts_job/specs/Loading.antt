@@ -1,7 +1,8 @@
 -- The first bytes of a file that is held.
 use Rattle.std.specs.Prelude.{ℕ, List, take, Result, Ok, Err, Option, Some, None}
-use Rattle.ts_outside.specs.Agreement.{Cause, Determined, Counted, Free}
-use Rattle.ts_outside.specs.Reading.{Held, bytes_of}
+use Rattle.ts_base.specs.Agreement.{Cause, Determined, Counted, Free}
+use Rattle.ts_outside.specs.States.{Held}
+use Rattle.ts_outside.specs.Reading.{bytes_of}
 use Rattle.ts_job.specs.declared.fault.FaultKind.TheVariants.{FileMissing}
 use Rattle.ts_job.specs.declared.stop.Stop.{Stop}
 use Rattle.ts_job.specs.declared.stop.Stop.TheVariants as stops
@@ -17,11 +18,11 @@ abbrev pub first_of : ℕ → Option (List ℕ) → Result (List ℕ) LoadFault
 first_of most None = Err faults.Missing
 first_of most (Some bytes) = Ok (take most bytes)
 
--- a missing file is the source's fault at a line
-abbrev pub stop_at : ℕ → LoadFault → Stop
-stop_at line faults.Missing = stops.Fault FileMissing line
-stop_at line faults.ReadFault = stops.ReadFault
-stop_at line faults.NoMemory = stops.NoMemory
+-- a missing file of a font is the fault of line 1
+abbrev pub load_fault : LoadFault → Stop
+load_fault faults.Missing = stops.Fault FileMissing 1
+load_fault faults.ReadFault = stops.ReadFault
+load_fault faults.NoMemory = stops.NoMemory
 
 -- at most so many bytes of the file of a name
 abbrev pub loaded : List Held → List ℕ → ℕ → Result (List ℕ) LoadFault

@@ -1,13 +1,15 @@
 -- What a source means: the page that it ships, or its first fault.
 use Rattle.std.specs.Prelude.{ℕ, List, [], ◌∷◌, ℤ, pos, ◌+ℤ◌, Bool, Result, Ok, Err, Option, Some, None, ◌==◌, ◌&&◌, fold, map, not, if◌then◌else◌}
 use Rattle.std.specs.Int.{int_max}
+use Rattle.std.specs.Option.{ok_or}
 use Rattle.ts_geometry.specs.declared.fault.MetricFault.{MetricFault}
 use Rattle.ts_geometry.specs.declared.fault.MetricFault.TheVariants.{Bad, NotBuilt, NoMemory as MetricNoMemory}
 use Rattle.jis_codes.specs.Kuten.{Kuten}
 use Rattle.jis_codes.specs.Spellings.{jis}
 use Rattle.jis_codes.specs.Numbers.{number_of}
-use Rattle.ts_outside.specs.Agreement.{◌>>=◌, Cause, Determined, Counted, Free}
-use Rattle.ts_outside.specs.Reading.{Held, bytes_of}
+use Rattle.ts_base.specs.Agreement.{◌>>=◌, with_fault, Cause, Determined, Counted, Free}
+use Rattle.ts_outside.specs.States.{Held}
+use Rattle.ts_outside.specs.Reading.{bytes_of}
 use Rattle.ts_outside.specs.Endings.{with_ending, metric_ending}
 use Rattle.jis_codes.specs.declared.character.Char.{Char}
 use Rattle.input_codings.specs.declared.fault.LineFault.{LineFault}
@@ -27,11 +29,6 @@ use Rattle.ts_job.specs.Words.{Request}
 use Rattle.ts_job.specs.Form.{Form, form_of}
 use Rattle.ts_job.specs.Meant.{page_meant}
 
--- what is there, or a fault at a line
-abbrev pub or_fault : {X : Type 0} → FaultKind → ℕ → Option X → Result X Stop
-or_fault kind line None = Err (stops.Fault kind line)
-or_fault kind line (Some x) = Ok x
-
 -- a fault of the first line
 abbrev pub line_fault : LineFault → Stop
 line_fault lines.TooManyLines = stops.Fault TooManyLines 1
@@ -45,17 +42,13 @@ abbrev pub form_on : Option (List Char) → Option Form
 form_on None = None
 form_on (Some characters) = form_of characters
 
-abbrev pub or_line_fault : {X : Type 0} → Result X LineFault → Result X Stop
-or_line_fault (Ok x) = Ok x
-or_line_fault (Err fault) = Err (line_fault fault)
-
 -- the first line of the main file
 unfoldable pub first_line : List Held → Request → Result (Option (List Char)) Stop
-first_line files request = or_fault FileMissing 0 (bytes_of files request.main) >>= λ bytes. or_line_fault (line request.coding 1 bytes)
+first_line files request = ok_or (bytes_of files request.main) (stops.Fault FileMissing 0) >>= λ bytes. with_fault line_fault (line request.coding 1 bytes)
 
 -- the form of the main file: later lines aren't needed
 unfoldable pub source_form : List Held → Request → Result Form Stop
-source_form files request = first_line files request >>= λ line. or_fault FormNotBuilt 0 (form_on line)
+source_form files request = first_line files request >>= λ line. ok_or (form_on line) (stops.Fault FormNotBuilt 0)
 
 -- a file that isn't there
 abbrev pub open_fault : OpenFault → Stop
@@ -68,10 +61,6 @@ abbrev pub font_fault : MetricFault → Stop
 font_fault (Bad kind at) = stops.Fault (FontBad kind at) 1
 font_fault NotBuilt = stops.Fault FormNotBuilt 0
 font_fault MetricNoMemory = stops.NoMemory
-
-abbrev pub or_font_fault : {X : Type 0} → Result X MetricFault → Result X Stop
-or_font_fault (Ok x) = Ok x
-or_font_fault (Err fault) = Err (font_fault fault)
 
 -- 10 pt in scaled points
 abbrev pub ten_points : ℕ
@@ -86,11 +75,11 @@ or_not_built metric = if is_built metric then Ok metric else Err (stops.Fault Fo
 
 -- the metric that is read, if it is one that is built
 abbrev pub built : Result Metric MetricFault → Result Metric Stop
-built metric = or_font_fault metric >>= or_not_built
+built metric = with_fault font_fault metric >>= or_not_built
 
 -- the metric of the form's font
 unfoldable pub font_metric : List Held → Form → Result Metric Stop
-font_metric files form = or_fault FileMissing 1 (bytes_of files (with_ending metric_ending form.name)) >>= λ bytes. built (metric_of bytes)
+font_metric files form = ok_or (bytes_of files (with_ending metric_ending form.name)) (stops.Fault FileMissing 1) >>= λ bytes. built (metric_of bytes)
 
 -- the measures of a character
 abbrev pub width_of : Metric → Kuten → ℤ

@@ -4,8 +4,9 @@ use Rattle.std.specs.declared.vec.Vec.{Vec}
 use Rattle.std.specs.declared.alloc.Global.{Global}
 use Rattle.ts_geometry.specs.declared.measure.Sp.{Sp}
 use Rattle.ts_geometry.specs.declared.fault.MetricFault.{MetricFault}
-use Rattle.ts_outside.specs.Agreement.{Rose, AgreesFault}
-use Rattle.ts_outside.specs.Reading.{Held, bytes_of}
+use Rattle.ts_base.specs.Agreement.{Rose, AgreesFault}
+use Rattle.ts_outside.specs.States.{Held}
+use Rattle.ts_outside.specs.Reading.{bytes_of}
 use Rattle.ts_outside.specs.Gaining.{Gained, GainedPrefix}
 use Rattle.ts_outside.specs.Endings.{with_ending, metric_ending}
 use Rattle.jfm_load.specs.Metrics.{Metric, metric_of, class_in, measures_of}

@@ -1,5 +1,6 @@
 -- A box of characters that is set: what its glyphs have.
-use Rattle.std.specs.Prelude.{◌≡◌, ◌≤◌, length, true, ℤ, pos, neg_ℤ, ◌≤ℤ◌, Some}
+use Rattle.std.specs.Prelude.{◌≡◌, ◌≤◌, length, ℕ, true, Some}
+use Rattle.ts_geometry.specs.Numbers.{IsWithin}
 use Rattle.std.specs.List.{list_all}
 use Rattle.jis_codes.specs.Kuten.{Kuten, IsKuten}
 use Rattle.jis_codes.specs.Spellings.{jis}
@@ -19,20 +20,19 @@ pub record IsSound (form : Form) : Type 0 where
   pub cells_least : 1 ≤ length form.cells
   pub cells_most : length form.cells ≤ 50
 
--- at most 16 ems of ten points from 0
-abbrev pub IsSmall : ℤ → Type 0
-IsSmall z = (neg_ℤ (pos 10485760) ≤ℤ z) × (z ≤ℤ pos 10485760)
+-- the greatest measure of a character of ten points, 16 ems, and that of the fifty of a box
+abbrev pub most_of_one : ℕ
+most_of_one = 10485760
 
--- at most fifty times as much
-abbrev pub IsNear : ℤ → Type 0
-IsNear z = (neg_ℤ (pos 524288000) ≤ℤ z) × (z ≤ℤ pos 524288000)
+abbrev pub most_of_all : ℕ
+most_of_all = 524288000
 
 -- a glyph of a cell, whose width in the metric is small
 pub record HasCell (metric : Metric) (glyph : Glyph) : Type 0 where
   pub cell : Kuten
   pub there : IsKuten cell
   pub code : glyph.code ≡ number_of jis cell
-  pub small : IsSmall (width_of metric cell)
+  pub small : IsWithin most_of_one (width_of metric cell)
 
 -- widths that give each cell the width that the metric gives it
 abbrev pub GivesWidths : Widths → FontDef → Metric → Type 0

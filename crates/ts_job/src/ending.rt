@@ -1,7 +1,7 @@
 //! How a source ends, before anything is put.
 
 ghost use Rattle.std.specs.Prelude.{◌≡◌, Some, List, map, string_bytes};
-ghost use Rattle.ts_outside.specs.Reading.{Held, KeepsAll};
+ghost use Rattle.ts_outside.specs.States.{Held, KeepsAll};
 ghost use Rattle.ts_job.specs.Asked.{request};
 ghost use Rattle.ts_job.specs.Meaning.{typeset as the_typeset};
 ghost use Rattle.ts_job.specs.Words.{asked as what_is_asked};
@@ -26,13 +26,12 @@ pub(crate) enum Ending {
 
 // How a request ends.
 fn ending_asked<F: Files>(alloc: Global, files: &mut F, asked: Request) -> Ending
-    ensures exact { (held : List Held) → F.held files.old ≡ Some held
+    ensures exact { (held : List Held) → (F.state files.old).held ≡ Some held
         → IsEnding (held_widths held) (pages_of (the_typeset held (request asked)))
         (outcome_of asked.main (the_typeset held (request asked))) result }
     ensures accepted { (given : _) → RefusesWords (outcome_ended result) (Some given) }
-    ensures kept { KeepsAll (F.is_open files.old) (F.left files.old) (F.is_open files.new) (F.left files.new) }
-    ensures held { F.held files.new ≡ F.held files.old }
-    ensures counted { CountsFiles (outcome_ended result) (F.faults files.old) (F.faults files.new) }
+    ensures kept { KeepsAll (F.state files.old) (F.state files.new) }
+    ensures counted { CountsFiles (outcome_ended result) (F.state files.old).faults (F.state files.new).faults }
 {
     match typeset(alloc, files, &asked) {
         Ok(dvi) => Ending::Page(dvi),
@@ -51,13 +50,12 @@ fn ending_asked<F: Files>(alloc: Global, files: &mut F, asked: Request) -> Endin
 /// How the words of a command line end.
 #[tactic(auto, unfolding(crate::specs::Promise::pages_meant, crate::specs::Promise::outcome_meant))]
 pub(crate) fn ending_of<F: Files>(alloc: Global, words: &Vec<String>, files: &mut F) -> Ending
-    ensures exact { (held : List Held) → F.held files.old ≡ Some held
+    ensures exact { (held : List Held) → (F.state files.old).held ≡ Some held
         → IsEnding (held_widths held) (pages_meant held (map string_bytes words.now.items))
         (outcome_meant held (map string_bytes words.now.items)) result }
     ensures usage { RefusesWords (outcome_ended result) (what_is_asked (map string_bytes words.now.items)) }
-    ensures kept { KeepsAll (F.is_open files.old) (F.left files.old) (F.is_open files.new) (F.left files.new) }
-    ensures held { F.held files.new ≡ F.held files.old }
-    ensures counted { CountsFiles (outcome_ended result) (F.faults files.old) (F.faults files.new) }
+    ensures kept { KeepsAll (F.state files.old) (F.state files.new) }
+    ensures counted { CountsFiles (outcome_ended result) (F.state files.old).faults (F.state files.new).faults }
 {
     match asked(alloc, words) {
         Ok(Some(request)) => ending_asked(alloc, files, request),

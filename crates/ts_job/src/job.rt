@@ -1,9 +1,9 @@
 //! The whole of a job.
 
 ghost use Rattle.std.specs.Prelude.{◌≡◌, Some, List, map, string_bytes, OnOk, OnErr};
-ghost use Rattle.ts_outside.specs.Agreement.{Counts, Rose};
+ghost use Rattle.ts_base.specs.Agreement.{Counts, Rose};
 ghost use Rattle.ts_outside.specs.Gaining.{Gained, GainedPrefix, put_cause};
-ghost use Rattle.ts_outside.specs.Reading.{Held, KeepsAll};
+ghost use Rattle.ts_outside.specs.States.{Held, KeepsAll};
 ghost use Rattle.ts_job.specs.Words.{asked};
 ghost use Rattle.ts_job.specs.Texts.{report_of as the_report_of};
 ghost use Rattle.ts_job.specs.Promise.{held_widths, pages_meant, outcome_meant, report_meant, EndsAs, RefusesWords, Writes, PutsNothing, Reports, CountsFiles, CountsSinks, IsComplete};
@@ -37,23 +37,22 @@ pub fn run<F: Files, S: Sink, R: Sink>(
     out: &mut S,
     report: &mut R,
 ) -> Outcome
-    ensures outcome { (held : List Held) → F.held files.old ≡ Some held
+    ensures outcome { (held : List Held) → (F.state files.old).held ≡ Some held
         → EndsAs result (outcome_meant held (map string_bytes words.now.items)) }
     ensures usage { RefusesWords result (asked (map string_bytes words.now.items)) }
-    ensures pages { (held : List Held) → F.held files.old ≡ Some held
+    ensures pages { (held : List Held) → (F.state files.old).held ≡ Some held
         → Writes result (held_widths held) (pages_meant held (map string_bytes words.now.items)) (S.held out.old) (S.held out.new) }
     ensures silent { PutsNothing result (S.held out.old) (S.held out.new) }
-    ensures text { (held : List Held) → F.held files.old ≡ Some held
+    ensures text { (held : List Held) → (F.state files.old).held ≡ Some held
         → Reports result (report_meant held (map string_bytes words.now.items)) (R.held report.old) (R.held report.new) }
-    ensures complete { (held : List Held) → F.held files.old ≡ Some held
+    ensures complete { (held : List Held) → (F.state files.old).held ≡ Some held
         → outcome_meant held (map string_bytes words.now.items) ≡ outcomes.Done
-        → (Rose (F.faults files.old) (F.faults files.new) → ⊥)
+        → (Rose (F.state files.old).faults (F.state files.new).faults → ⊥)
         → (Rose (S.faults out.old) (S.faults out.new) → ⊥)
         → (Rose (R.faults report.old) (R.faults report.new) → ⊥)
         → IsComplete result }
-    ensures kept { KeepsAll (F.is_open files.old) (F.left files.old) (F.is_open files.new) (F.left files.new) }
-    ensures held { F.held files.new ≡ F.held files.old }
-    ensures files { CountsFiles result (F.faults files.old) (F.faults files.new) }
+    ensures kept { KeepsAll (F.state files.old) (F.state files.new) }
+    ensures files { CountsFiles result (F.state files.old).faults (F.state files.new).faults }
     ensures sinks { CountsSinks result (S.faults out.old) (S.faults out.new) (R.faults report.old) (R.faults report.new) }
 {
     let outcome = match ending_of(alloc, words, files) {

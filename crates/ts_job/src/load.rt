@@ -1,8 +1,8 @@
 //! The first bytes of a file.
 
-ghost use Rattle.std.specs.Prelude.{◌≡◌, ◌≢◌, ℕ, List, true, Some, Ok, take};
-ghost use Rattle.ts_outside.specs.Agreement.{Agrees, Counts};
-ghost use Rattle.ts_outside.specs.Reading.{Held, KeepsAll};
+ghost use Rattle.std.specs.Prelude.{◌≡◌, ℕ, List, true, Some, Ok, take};
+ghost use Rattle.ts_base.specs.Agreement.{Agrees, Counts};
+ghost use Rattle.ts_outside.specs.States.{Held, KeepsAll, ReadsOn};
 ghost use Rattle.ts_job.specs.Loading.{load_cause, loaded};
 
 use std::alloc::Global;
@@ -25,12 +25,11 @@ fn read_on<F: Files>(
     file: FileNo,
     most: usize,
 ) -> Result<Vec<u8>, LoadFault>
-    requires number { F.is_open files.old file.0 ≡ true }
-    ensures exact { (left : List ℕ) → F.left files.old file.0 ≡ Some left → Agrees (λ v. v.items) load_cause result (Ok (take most left)) }
-    ensures number { (n : ℕ) → F.is_open files.new n ≡ F.is_open files.old n }
-    ensures others { (n : ℕ) → n ≢ file.0 → F.left files.new n ≡ F.left files.old n }
-    ensures held { F.held files.new ≡ F.held files.old }
-    ensures counted { Counts load_cause result (F.faults files.old) (F.faults files.new) }
+    requires number { (F.state files.old).is_open file.0 ≡ true }
+    ensures exact { (left : List ℕ) → (F.state files.old).left file.0 ≡ Some left
+        → Agrees (λ v. v.items) load_cause result (Ok (take most left)) }
+    ensures reads { ReadsOn file.0 (F.state files.old) (F.state files.new) }
+    ensures counted { Counts load_cause result (F.state files.old).faults (F.state files.new).faults }
 {
     let mut bytes = Vec::new(alloc);
     let mut buffer = [0u8; BLOCK];
@@ -56,10 +55,9 @@ pub(crate) fn load<F: Files>(
     name: &FileName,
     most: usize,
 ) -> Result<Vec<u8>, LoadFault>
-    ensures exact { (held : List Held) → F.held files.old ≡ Some held → Agrees (λ v. v.items) load_cause result (loaded held name.now most) }
-    ensures kept { KeepsAll (F.is_open files.old) (F.left files.old) (F.is_open files.new) (F.left files.new) }
-    ensures held { F.held files.new ≡ F.held files.old }
-    ensures counted { Counts load_cause result (F.faults files.old) (F.faults files.new) }
+    ensures exact { (held : List Held) → (F.state files.old).held ≡ Some held → Agrees (λ v. v.items) load_cause result (loaded held name.now most) }
+    ensures kept { KeepsAll (F.state files.old) (F.state files.new) }
+    ensures counted { Counts load_cause result (F.state files.old).faults (F.state files.new).faults }
 {
     match files.open(name) {
         Opened::Found(file) => {

@@ -7,12 +7,13 @@ ghost use Rattle.jis_codes.specs.Kuten.{IsKuten};
 ghost use Rattle.jis_codes.specs.Spellings.{jis};
 ghost use Rattle.jis_codes.specs.Numbers.{number_of};
 ghost use Rattle.jfm_load.specs.Metrics.{class_of, measures_of};
+ghost use Rattle.ts_geometry.specs.Numbers.{IsWithin};
 ghost use Rattle.dvi_code.specs.Structure.{is_sound_font};
 ghost use Rattle.dvi_code.specs.Pages.{Widths, file_pages};
 ghost use Rattle.ts_job.specs.Meant.{FitsGlyph};
 ghost use Rattle.ts_job.specs.Meaning.{height_of, depth_of, box_height, box_depth, glyphs_from, font_def, page_of, ten_points};
 ghost use Rattle.ts_job.specs.FormSeen.{seen};
-ghost use Rattle.ts_job.specs.Setting.{IsNear, IsSmall, IsSound, HasCell, GivesWidths};
+ghost use Rattle.ts_job.specs.Setting.{most_of_one, most_of_all, IsSound, HasCell, GivesWidths};
 
 use crate::form::Form;
 use crate::writer::{Glyph, dvi_of};
@@ -28,25 +29,11 @@ pub(crate) const TEN_POINTS: u32 = 655_360;
 
 fn measures(metric: &Japanese, cell: Cell) -> Measures
     ensures value { result ≡ measures_of metric.now (class_of metric.now cell) ten_points }
-    ensures width { IsSmall result.wd.0 }
-    ensures height { IsSmall result.ht.0 }
-    ensures depth { IsSmall result.dp.0 }
+    ensures width { IsWithin most_of_one result.wd.0 }
+    ensures height { IsWithin most_of_one result.ht.0 }
+    ensures depth { IsWithin most_of_one result.dp.0 }
 {
     metric.measures(metric.class(cell), TEN_POINTS)
-}
-
-fn greater(a: Sp, b: Sp) -> Sp
-    ensures { result.0 ≡ int_max a.0 b.0 }
-{
-    Sp(a.0.max(b.0))
-}
-
-fn right_of(x: Sp, width: Sp) -> Sp
-    requires near { IsNear x.0 }
-    requires small { IsSmall width.0 }
-    ensures { result.0 ≡ x.0 +ℤ width.0 }
-{
-    Sp(x.0 + width.0)
 }
 
 // The height and the depth of a box of characters.
@@ -62,16 +49,16 @@ fn extents(metric: &Japanese, cells: &[Cell]) -> (Sp, Sp)
     let mut depth = Sp(0);
     for cell in cells {
         let size = measures(metric, *cell);
-        height = greater(height, size.ht);
-        depth = greater(depth, size.dp);
+        height = height.greater(size.ht);
+        depth = depth.greater(size.dp);
     }
     (height, depth)
 }
 
 // A character with its reference point.
 fn glyph(cell: Cell, x: Sp, y: Sp) -> Glyph
-    requires along { IsNear x.0 }
-    requires across { IsNear y.0 }
+    requires along { IsWithin most_of_all x.0 }
+    requires across { IsWithin most_of_all y.0 }
     ensures value { result ≡ record { code = number_of jis cell; at = record { x = x; y = y } } }
     ensures there { IsKuten cell }
     ensures fits { FitsGlyph result }
@@ -102,7 +89,7 @@ fn glyphs(
     let mut x = Sp(0);
     for cell in cells {
         glyphs.push(glyph(*cell, x, baseline))?;
-        x = right_of(x, measures(metric, *cell).wd);
+        x = x.plus(measures(metric, *cell).wd);
     }
     Ok((glyphs, x))
 }

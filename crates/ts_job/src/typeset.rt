@@ -1,80 +1,39 @@
 //! From the files to the DVI file of the source's page.
 
-ghost use Rattle.std.specs.Prelude.{◌≡◌, ◌≢◌, ◌≤◌, ℕ, List, length, take, Some, Err, IfOk};
-ghost use Rattle.ts_outside.specs.Agreement.{Agrees, Counts};
-ghost use Rattle.ts_outside.specs.Reading.{Held, KeepsAll};
+ghost use Rattle.std.specs.Prelude.{◌≡◌, ◌≤◌, ℕ, List, length, take, Some, IfOk};
+ghost use Rattle.ts_base.specs.Agreement.{Agrees, Counts, Uncounted};
+ghost use Rattle.ts_outside.specs.States.{Held, KeepsAll};
 ghost use Rattle.jfm_load.specs.Metrics.{metric_of};
 ghost use Rattle.jfm_load.specs.Words.{halfword};
+ghost use Rattle.std.specs.Option.{ok_or};
+ghost use Rattle.ts_job.specs.declared.stop.Stop.TheVariants as stops;
 ghost use Rattle.ts_job.specs.FormSeen.{seen};
-ghost use Rattle.ts_job.specs.Loading.{stop_at};
-ghost use Rattle.ts_job.specs.Meaning.{source_form as the_source_form, font_metric as the_font_metric, font_fault, built, line_fault, open_fault, or_fault, form_on as the_form_on, first_line as the_first_line, typeset as the_typeset, stop_cause};
+ghost use Rattle.ts_job.specs.Meaning.{source_form as the_source_form, font_metric as the_font_metric, built, form_on as the_form_on, first_line as the_first_line, typeset as the_typeset, stop_cause};
 ghost use Rattle.ts_job.specs.Asked.{request};
 ghost use Rattle.ts_job.specs.Promise.{Sets};
 ghost use Rattle.ts_job.specs.Setting.{IsSound};
 
 use crate::fault::FaultKind;
 use crate::form::{Form, form_of};
-use crate::load::{LoadFault, load};
+use crate::load::load;
 use crate::setting::{TEN_POINTS, set};
 use crate::stop::Stop;
 use crate::words::Request;
 use byteorder::{BigEndian, ByteOrder};
-use input_codings::{Line, LineFault, Lines, OpenFault};
+use input_codings::{Line, Lines};
 use jfm_load::{Japanese, a_metric_is_in_its_first_words, read};
 use std::alloc::Global;
-use ts_geometry::MetricFault;
 use ts_outside::{FileName, Files};
 
 // A metric has at most 65,535 words.
 const MOST_OF_METRIC: usize = 262_140;
 
-fn stop_of(fault: LoadFault, line: u32) -> Stop
-    ensures { result ≡ stop_at line fault }
-{
-    match fault {
-        LoadFault::Missing => Stop::Fault(FaultKind::FileMissing, line),
-        LoadFault::ReadFault => Stop::ReadFault,
-        LoadFault::NoMemory => Stop::NoMemory,
-    }
-}
-
-fn stop_of_metric(fault: MetricFault) -> Stop
-    ensures { result ≡ font_fault fault }
-{
-    match fault {
-        MetricFault::Bad(kind, at) => Stop::Fault(FaultKind::FontBad(kind, at), 1),
-        MetricFault::NotBuilt => Stop::Fault(FaultKind::FormNotBuilt, 0),
-        MetricFault::NoMemory => Stop::NoMemory,
-    }
-}
-
-fn stop_of_open(fault: OpenFault) -> Stop
-    ensures { result ≡ open_fault fault }
-{
-    match fault {
-        OpenFault::Missing => Stop::Fault(FaultKind::FileMissing, 0),
-        OpenFault::ReadFault => Stop::ReadFault,
-        OpenFault::NoMemory => Stop::NoMemory,
-    }
-}
-
-fn stop_of_line(fault: LineFault) -> Stop
-    ensures { result ≡ line_fault fault }
-{
-    match fault {
-        LineFault::TooManyLines => Stop::Fault(FaultKind::TooManyLines, 1),
-        LineFault::LineTooLong => Stop::Fault(FaultKind::LineTooLong, 1),
-        LineFault::BadByte(at) => Stop::Fault(FaultKind::BadByte(at), 1),
-        LineFault::ReadFault => Stop::ReadFault,
-        LineFault::NoMemory => Stop::NoMemory,
-    }
-}
-
 // The form of the first line, if there is one.
 fn form_on(alloc: Global, line: Option<Line>) -> Result<Form, Stop>
-    ensures exact { Agrees seen stop_cause result (or_fault FaultKind.FormNotBuilt 0 (the_form_on line)) }
+    ensures exact { Agrees seen stop_cause result
+        (ok_or (the_form_on line) (stops.Fault FaultKind.FormNotBuilt 0)) }
     ensures sound { IfOk result (λ form. IsSound (seen form)) }
-    ensures quiet { result ≢ Err Stop.ReadFault }
+    ensures quiet { Uncounted stop_cause result }
 {
     let Some(line) = line else {
         return Err(Stop::Fault(FaultKind::FormNotBuilt, 0));
@@ -88,33 +47,25 @@ fn form_on(alloc: Global, line: Option<Line>) -> Result<Form, Stop>
 
 // The first line of a file, which is closed again.
 fn first_line<F: Files>(alloc: Global, files: &mut F, asked: &Request) -> Result<Option<Line>, Stop>
-    ensures exact { (held : List Held) → F.held files.old ≡ Some held
+    ensures exact { (held : List Held) → (F.state files.old).held ≡ Some held
         → Agrees (λ line. line) stop_cause result (the_first_line held (request asked.now)) }
-    ensures kept { KeepsAll (F.is_open files.old) (F.left files.old) (F.is_open files.new) (F.left files.new) }
-    ensures held { F.held files.new ≡ F.held files.old }
-    ensures counted { Counts stop_cause result (F.faults files.old) (F.faults files.new) }
+    ensures kept { KeepsAll (F.state files.old) (F.state files.new) }
+    ensures counted { Counts stop_cause result (F.state files.old).faults (F.state files.new).faults }
 {
-    let mut lines = match Lines::open(alloc, files, &asked.main, asked.coding) {
-        Ok(lines) => lines,
-        Err(fault) => return Err(stop_of_open(fault)),
-    };
+    let mut lines = Lines::open(alloc, files, &asked.main, asked.coding)?;
     let line = lines.next_line(files);
     lines.close(files);
-    match line {
-        Ok(line) => Ok(line),
-        Err(fault) => Err(stop_of_line(fault)),
-    }
+    Ok(line?)
 }
 
 // The form of the main file.
 #[tactic(auto, unfolding(crate::specs::Meaning::source_form))]
 fn source_form<F: Files>(alloc: Global, files: &mut F, asked: &Request) -> Result<Form, Stop>
-    ensures exact { (held : List Held) → F.held files.old ≡ Some held
+    ensures exact { (held : List Held) → (F.state files.old).held ≡ Some held
         → Agrees seen stop_cause result (the_source_form held (request asked.now)) }
     ensures sound { IfOk result (λ form. IsSound (seen form)) }
-    ensures kept { KeepsAll (F.is_open files.old) (F.left files.old) (F.is_open files.new) (F.left files.new) }
-    ensures held { F.held files.new ≡ F.held files.old }
-    ensures counted { Counts stop_cause result (F.faults files.old) (F.faults files.new) }
+    ensures kept { KeepsAll (F.state files.old) (F.state files.new) }
+    ensures counted { Counts stop_cause result (F.state files.old).faults (F.state files.new).faults }
 {
     let line = first_line(alloc, files, asked)?;
     form_on(alloc, line)
@@ -142,37 +93,30 @@ fn hold_metric(bytes: &[u8])
 // The metric that bytes spell, if it is for yoko lines of the one size that is built.
 fn built_metric(alloc: Global, bytes: &[u8]) -> Result<Japanese, Stop>
     ensures exact { Agrees (λ metric. metric) stop_cause result (built (metric_of bytes.now)) }
-    ensures quiet { result ≢ Err Stop.ReadFault }
+    ensures quiet { Uncounted stop_cause result }
 {
-    match read(alloc, bytes) {
-        Err(fault) => Err(stop_of_metric(fault)),
-        Ok(metric) if metric.is_tate() || metric.design() != TEN_POINTS => {
-            Err(Stop::Fault(FaultKind::FormNotBuilt, 0))
-        }
-        Ok(metric) => Ok(metric),
+    let metric = read(alloc, bytes)?;
+    if metric.is_tate() || metric.design() != TEN_POINTS {
+        return Err(Stop::Fault(FaultKind::FormNotBuilt, 0));
     }
+    Ok(metric)
 }
 
 // The metric of the form's font.
 #[tactic(auto, unfolding(crate::specs::Meaning::font_metric))]
 fn font_metric<F: Files>(alloc: Global, files: &mut F, form: &Form) -> Result<Japanese, Stop>
     requires { IsSound (seen form.now) }
-    ensures exact { (held : List Held) → F.held files.old ≡ Some held
+    ensures exact { (held : List Held) → (F.state files.old).held ≡ Some held
         → Agrees (λ metric. metric) stop_cause result (the_font_metric held (seen form.now)) }
-    ensures kept { KeepsAll (F.is_open files.old) (F.left files.old) (F.is_open files.new) (F.left files.new) }
-    ensures held { F.held files.new ≡ F.held files.old }
-    ensures counted { Counts stop_cause result (F.faults files.old) (F.faults files.new) }
+    ensures kept { KeepsAll (F.state files.old) (F.state files.new) }
+    ensures counted { Counts stop_cause result (F.state files.old).faults (F.state files.new).faults }
 {
     let Ok(name) = FileName::with_ending(alloc, &form.name, b".tfm") else {
         return Err(Stop::NoMemory);
     };
-    match load(alloc, files, &name, MOST_OF_METRIC) {
-        Err(fault) => Err(stop_of(fault, 1)),
-        Ok(bytes) => {
-            hold_metric(&bytes);
-            built_metric(alloc, &bytes)
-        }
-    }
+    let bytes = load(alloc, files, &name, MOST_OF_METRIC)?;
+    hold_metric(&bytes);
+    built_metric(alloc, &bytes)
 }
 
 /// The DVI file of the page that the main file means.
@@ -182,11 +126,10 @@ pub(crate) fn typeset<F: Files>(
     files: &mut F,
     asked: &Request,
 ) -> Result<Vec<u8>, Stop>
-    ensures exact { (held : List Held) → F.held files.old ≡ Some held
+    ensures exact { (held : List Held) → (F.state files.old).held ≡ Some held
         → Sets held result (the_typeset held (request asked.now)) }
-    ensures kept { KeepsAll (F.is_open files.old) (F.left files.old) (F.is_open files.new) (F.left files.new) }
-    ensures held { F.held files.new ≡ F.held files.old }
-    ensures counted { Counts stop_cause result (F.faults files.old) (F.faults files.new) }
+    ensures kept { KeepsAll (F.state files.old) (F.state files.new) }
+    ensures counted { Counts stop_cause result (F.state files.old).faults (F.state files.new).faults }
 {
     let form = source_form(alloc, files, asked)?;
     let metric = font_metric(alloc, files, &form)?;

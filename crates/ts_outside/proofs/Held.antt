@@ -53,31 +53,20 @@ longer_buffer (Some left) (got.Bytes n) buffer more new fills gives = (gives.0, 
 longer_buffer (Some left) got.End buffer more new fills gives = gives
 longer_buffer (Some left) got.Failed buffer more new fills gives = gives
 
+-- what `Keeps` says of what is left of files
+abbrev pub KeepsLeft : List (Option (List ℕ)) → List (Option (List ℕ)) → ℕ → Type 0
+KeepsLeft old new n = (is_some (get_or new n None) ≡ is_some (get_or old n None)) × (is_some (get_or old n None) ≡ true → get_or new n None ≡ get_or old n None)
+
 pub is_seated : (files : List MemFile) (seats : List (Option Seat)) (n : ℕ) → is_some (get_or (map (seat_left files) seats) n None) ≡ true → is_some (get_or seats n None) ≡ true
 is_seated files seats n seen = sym (seated files (get_or seats n None)) ∙ ap is_some (sym (left_of_seat files seats n)) ∙ seen
 
--- A file that is still open under its number, among others that are let alone.
-pub still_seated : (files : List MemFile) (old new : List (Option Seat)) (file n : ℕ) → ((k : ℕ) → k ≢ file → get_or new k None ≡ get_or old k None) → is_some (get_or new file None) ≡ true → is_some (get_or old file None) ≡ true
-    → is_some (get_or (map (seat_left files) new) n None) ≡ is_some (get_or (map (seat_left files) old) n None)
-still_seated files old new file n others now before = elim (cases_eq n file) [
-  | inl same ↦
-      rw (left_of_seat files new n, left_of_seat files old n, seated files (get_or new n None), seated files (get_or old n None), same) (now ∙ sym before)
-  | inr other ↦ ap is_some (left_same files old new n (others n other))
-]
+module _ (files : List MemFile) (old new : List (Option Seat)) where
+  -- A file that was let alone is kept.
+  pub keeps_seat : (n : ℕ) → get_or new n None ≡ get_or old n None → KeepsLeft (map (seat_left files) old) (map (seat_left files) new) n
+  keeps_seat n same = let left = left_same files old new n same in (ap is_some left, λ was. left)
 
-module _ (files : List MemFile) (old new : List (Option Seat)) (file : ℕ) where
-  -- A file that is opened under a number that no open file had.
-  pub newly_seated : (seat : Seat) → get_or old file None ≡ None → get_or new file None ≡ Some seat → ((k : ℕ) → k ≢ file → get_or new k None ≡ get_or old k None)
-      → (is_some (get_or (map (seat_left files) old) file None) ≡ false) × (is_some (get_or (map (seat_left files) new) file None) ≡ true)
-      × ((k : ℕ) → k ≢ file → is_some (get_or (map (seat_left files) new) k None) ≡ is_some (get_or (map (seat_left files) old) k None))
-  newly_seated seat fresh here others = (rw (left_of_seat files old file, fresh) refl, rw (left_of_seat files new file, here) refl, λ k other. ap is_some (left_same files old new k (others k other)))
+  pub closed_seat : (n : ℕ) → get_or new n None ≡ None → is_some (get_or (map (seat_left files) new) n None) ≡ false
+  closed_seat n none = rw (left_of_seat files new n, none) refl
 
-  pub others_left : get_or old file None ≡ None → ((k : ℕ) → k ≢ file → get_or new k None ≡ get_or old k None) → (n : ℕ) → is_some (get_or (map (seat_left files) old) n None) ≡ true
-      → get_or (map (seat_left files) new) n None ≡ get_or (map (seat_left files) old) n None
-  others_left fresh others n was = elim (cases_eq n file) [
-    | inl same ↦ absurd (free_is_closed (rw same at was) fresh)
-    | inr other ↦ left_same files old new n (others n other)
-  ]
-    where
-      free_is_closed : is_some (get_or (map (seat_left files) old) file None) ≡ true → get_or old file None ≡ None → ⊥
-      free_is_closed was fresh = let seen = is_seated files old file was in let closed = rw fresh at seen in cc
+  pub opened_seat : (n : ℕ) → is_some (get_or new n None) ≡ true → is_some (get_or (map (seat_left files) new) n None) ≡ true
+  opened_seat n now = rw (left_of_seat files new n, seated files (get_or new n None)) now

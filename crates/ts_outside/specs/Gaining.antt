@@ -1,6 +1,6 @@
 -- What a sink holds after it was given bytes.
-use Rattle.std.specs.Prelude.{◌≡◌, ℕ, ◌≤◌, ◌<◌, List, ◌++◌, length, take, Option, option_map}
-use Rattle.ts_outside.specs.Agreement.{Cause, Counted, Free, Rose}
+use Rattle.std.specs.Prelude.{◌≡◌, ℕ, ◌≤◌, ◌-◌, List, ◌++◌, length, take, Option, option_map}
+use Rattle.ts_base.specs.Agreement.{Cause, Counted, Free, Rose}
 use Rattle.ts_outside.specs.declared.sink.Put.{Put}
 use Rattle.ts_outside.specs.declared.sink.Put.TheVariants as puts
 use Rattle.ts_outside.specs.declared.sink.PutFault.{PutFault}
@@ -14,9 +14,9 @@ Gained old new bytes = new ≡ option_map (λ held. held ++ bytes) old
 abbrev pub GainedPrefix : Option (List ℕ) → Option (List ℕ) → List ℕ → Type 0
 GainedPrefix old new bytes = (n : ℕ) × (n ≤ length bytes) × Gained old new (take n bytes)
 
--- what it held, and then the first of these bytes, but not all of them
+-- what it held, and then the first of these bytes, but not all of them; nothing where there are none
 abbrev pub GainedPart : Option (List ℕ) → Option (List ℕ) → List ℕ → Type 0
-GainedPart old new bytes = (n : ℕ) × (n < length bytes) × Gained old new (take n bytes)
+GainedPart old new bytes = (n : ℕ) × (n ≤ length bytes - 1) × Gained old new (take n bytes)
 
 -- Took appends from one byte of a piece to all of it, and every other answer nothing.
 abbrev pub Takes : Put → List ℕ → Option (List ℕ) → Option (List ℕ) → Type 0

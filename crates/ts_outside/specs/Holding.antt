@@ -2,7 +2,7 @@
 use Rattle.std.specs.Prelude.{ℕ, zero, suc, List, [], ◌∷◌, drop, Option, Some, None}
 use Rattle.ts_outside.specs.declared.mem_files.MemFile.{MemFile}
 use Rattle.ts_outside.specs.declared.mem_files.Seat.{Seat}
-use Rattle.ts_outside.specs.Reading.{Held}
+use Rattle.ts_outside.specs.States.{Held}
 
 abbrev pub held_of : MemFile → Held
 held_of file = record { name = file.name; bytes = file.bytes.items }

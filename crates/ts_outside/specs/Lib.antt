@@ -1,7 +1,7 @@
 pub mod Names
 pub mod Endings
 pub mod Naming
-pub mod Agreement
+pub mod States
 pub mod Reading
 pub mod Gaining
 pub mod Memory

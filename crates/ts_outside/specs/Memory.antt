@@ -1,8 +1,8 @@
 -- Files and sinks in memory: which of their calls fail, and how their pieces are cut.
-use Rattle.std.specs.Prelude.{ℕ, ◌+◌, ◌%◌, min, max, List, [], ◌∷◌, length, Bool, Option, None, get_or, ◌==◌, if◌then◌else◌}
+use Rattle.std.specs.Prelude.{ℕ, ◌+◌, ◌%◌, min, max, List, [], ◌∷◌, length, Bool, Option, Some, None, is_some, get_or, ◌==◌, if◌then◌else◌}
 use Rattle.std.specs.List.{list_any}
-use Rattle.ts_outside.specs.Agreement.{last_count}
-use Rattle.ts_outside.specs.Reading.{Held}
+use Rattle.ts_base.specs.Agreement.{last_count}
+use Rattle.ts_outside.specs.States.{Held, FilesState}
 
 -- a count, one later, which stops at its last value
 abbrev pub next_count : ℕ → ℕ
@@ -34,6 +34,10 @@ pub record Shelf : Type 0 where
 -- what is left of the file of a number
 abbrev pub left_at : Shelf → ℕ → Option (List ℕ)
 left_at shelf n = get_or shelf.left n None
+
+-- what files in memory stand for
+abbrev pub shelf_state : Shelf → FilesState
+shelf_state shelf = record { held = Some shelf.held; is_open = λ n. is_some (left_at shelf n); left = left_at shelf; faults = shelf.faults }
 
 -- a sink in memory, and how many puts there were
 pub record Tray : Type 0 where

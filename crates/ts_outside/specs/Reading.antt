@@ -1,16 +1,12 @@
 -- Files that are held, and what the calls on files tell of them.
-use Rattle.std.specs.Prelude.{◌≡◌, ◌≢◌, ℕ, ◌≤◌, List, [], ◌∷◌, length, take, drop, Bool, true, false, Option, Some, None, if◌then◌else◌}
+use Rattle.std.specs.Prelude.{◌≡◌, ℕ, ◌≤◌, List, [], ◌∷◌, length, take, drop, Option, Some, None, if◌then◌else◌}
 use Rattle.std.specs.Str.{bytes_eq}
-use Rattle.ts_outside.specs.Agreement.{Rose}
+use Rattle.ts_base.specs.Agreement.{Rose}
 use Rattle.ts_outside.specs.declared.files.Opened.{Opened}
 use Rattle.ts_outside.specs.declared.files.Opened.TheVariants as opened
 use Rattle.ts_outside.specs.declared.files.Got.{Got}
 use Rattle.ts_outside.specs.declared.files.Got.TheVariants as got
-
--- a file that is held
-pub record Held : Type 0 where
-  pub name : List ℕ
-  pub bytes : List ℕ
+use Rattle.ts_outside.specs.States.{Held, FilesState, OpensNew, KeepsAll}
 
 -- the bytes of the first file of a name
 abbrev pub bytes_of : List Held → List ℕ → Option (List ℕ)
@@ -31,13 +27,6 @@ OpensHeld bytes opened.NoMemory left = Unit {0}
 abbrev pub Opens : Option (List Held) → List ℕ → Opened → (ℕ → Option (List ℕ)) → Type 0
 Opens (Some files) name answer left = OpensHeld (bytes_of files name) answer left
 Opens None name answer left = Unit {0}
-
--- Found gives a number that no open file had, under which a file is open then; every other answer opens nothing.
-abbrev pub OpensAt : Opened → (ℕ → Bool) → (ℕ → Bool) → Type 0
-OpensAt (opened.Found file) old new = (old file.0 ≡ false) × (new file.0 ≡ true) × ((n : ℕ) → n ≢ file.0 → new n ≡ old n)
-OpensAt opened.Missing old new = (n : ℕ) → new n ≡ old n
-OpensAt opened.Failed old new = (n : ℕ) → new n ≡ old n
-OpensAt opened.NoMemory old new = (n : ℕ) → new n ≡ old n
 
 -- Every answer but Failed leaves the count of faults.
 abbrev pub CountsOpened : Opened → ℕ → ℕ → Type 0
@@ -68,12 +57,9 @@ CountsGot (got.Bytes n) old new = new ≡ old
 CountsGot got.End old new = new ≡ old
 CountsGot got.Failed old new = Rose old new
 
--- Every file but that of one number is open or closed as it was, the open ones at their places.
-abbrev pub KeepsOthers : ℕ → (ℕ → Bool) → (ℕ → Option (List ℕ)) → (ℕ → Bool) → (ℕ → Option (List ℕ)) → Type 0
-KeepsOthers file open_before left_before open_after left_after =
-    (n : ℕ) → n ≢ file → (open_after n ≡ open_before n) × (open_before n ≡ true → left_after n ≡ left_before n)
-
--- Every file is open or closed as it was, the open ones at their places.
-abbrev pub KeepsAll : (ℕ → Bool) → (ℕ → Option (List ℕ)) → (ℕ → Bool) → (ℕ → Option (List ℕ)) → Type 0
-KeepsAll open_before left_before open_after left_after =
-    (n : ℕ) → (open_after n ≡ open_before n) × (open_before n ≡ true → left_after n ≡ left_before n)
+-- What opening leaves: Found gives a number that no open file had, and every other answer opens nothing.
+abbrev pub LeavesOpened : Opened → FilesState → FilesState → Type 0
+LeavesOpened (opened.Found file) old new = OpensNew file.0 old new
+LeavesOpened opened.Missing old new = KeepsAll old new
+LeavesOpened opened.Failed old new = KeepsAll old new
+LeavesOpened opened.NoMemory old new = KeepsAll old new

@@ -22,8 +22,8 @@ pub struct DiskFiles<R: rt::Files + Drop> {
 impl<R: rt::Files + Drop> DiskFiles<R> {
     /// The files of this runtime, none of them open.
     pub fn new(rt: R, alloc: Global) -> DiskFiles<R>
-        ensures closed { (n : ℕ) → ⟦<DiskFiles<R> as Files>⟧.is_open result n ≡ false }
-        ensures faults { ⟦<DiskFiles<R> as Files>⟧.faults result ≡ 0 }
+        ensures closed { (n : ℕ) → (⟦<DiskFiles<R> as Files>⟧.state result).is_open n ≡ false }
+        ensures faults { (⟦<DiskFiles<R> as Files>⟧.state result).faults ≡ 0 }
     {
         DiskFiles {
             runtime: rt,
@@ -50,13 +50,7 @@ fn read_open<T: Read + Drop>(
 }
 
 impl<R: rt::Files + Drop> Files for DiskFiles<R> {
-    ghost held = { λ d. None };
-
-    ghost is_open = { λ d n. is_some (get_or d.files.items n None) };
-
-    ghost left = { λ d n. None };
-
-    ghost faults = { λ d. d.faults };
+    ghost state = { λ d. record { held = None; is_open = λ n. is_some (get_or d.files.items n None); left = λ n. None; faults = d.faults } };
 
     fn open(&mut self, name: &FileName) -> Opened {
         let Ok(path) = str::from_utf8(name.bytes()) else {

@@ -1,7 +1,8 @@
 //! Files to read.
 
-ghost use Rattle.std.specs.Prelude.{◌≡◌, ◌≢◌, ◌<◌, ℕ, List, Bool, true, false, Option, length};
-ghost use Rattle.ts_outside.specs.Reading.{Held, Opens, OpensAt, CountsOpened, Fills, Gives, CountsGot};
+ghost use Rattle.std.specs.Prelude.{◌≡◌, ◌<◌, true, length};
+ghost use Rattle.ts_outside.specs.States.{ReadsOn, Closes};
+ghost use Rattle.ts_outside.specs.Reading.{Opens, LeavesOpened, CountsOpened, Fills, Gives, CountsGot};
 
 use crate::name::FileName;
 
@@ -34,43 +35,30 @@ pub enum Got {
 
 /// Files that are held under names, and read piece by piece.
 pub trait Files {
-    /// The files that are held, where they are told. Of equal names the first counts.
-    ghost held: { Self → Option (List Held) };
+    ghost use Rattle.ts_outside.specs.States.{FilesState};
 
-    /// Whether a file is open under a number.
-    ghost is_open: { Self → ℕ → Bool };
-
-    /// The place of an open file: what is left of it to read, where that is told.
-    ghost left: { Self → ℕ → Option (List ℕ) };
-
-    /// The faults of the outside so far, a number that never falls and stops at its last value.
-    ghost faults: { Self → ℕ };
+    /// What the files stand for.
+    ghost state: { Self → FilesState };
 
     /// Opens a file at its first byte. A name may be open more than once.
     fn open(&mut self, name: &FileName) -> Opened
-        ensures opens { Opens (held self.old) name.now result (left self.new) }
-        ensures number { OpensAt result (is_open self.old) (is_open self.new) }
-        ensures others { (n : ℕ) → is_open self.old n ≡ true → left self.new n ≡ left self.old n }
-        ensures held { held self.new ≡ held self.old }
-        ensures counted { CountsOpened result (faults self.old) (faults self.new) };
+        ensures opens { Opens (state self.old).held name.now result (state self.new).left }
+        ensures leaves { LeavesOpened result (state self.old) (state self.new) }
+        ensures counted { CountsOpened result (state self.old).faults (state self.new).faults };
 
     /// Reads the next bytes of an open file, as many as the outside likes to give.
     fn read(&mut self, file: FileNo, buffer: &mut [u8]) -> Got
-        requires number { is_open self.old file.0 ≡ true }
+        requires number { (state self.old).is_open file.0 ≡ true }
         requires room { 0 < length buffer.old }
         ensures fills { Fills result (length buffer.old) }
-        ensures gives { Gives (left self.old file.0) result buffer.new (left self.new file.0) }
-        ensures number { (n : ℕ) → is_open self.new n ≡ is_open self.old n }
-        ensures others { (n : ℕ) → n ≢ file.0 → left self.new n ≡ left self.old n }
-        ensures held { held self.new ≡ held self.old }
-        ensures counted { CountsGot result (faults self.old) (faults self.new) };
+        ensures gives { Gives ((state self.old).left file.0) result buffer.new
+            ((state self.new).left file.0) }
+        ensures leaves { ReadsOn file.0 (state self.old) (state self.new) }
+        ensures counted { CountsGot result (state self.old).faults (state self.new).faults };
 
     /// Closes an open file.
     fn close(&mut self, file: FileNo)
-        requires { is_open self.old file.0 ≡ true }
-        ensures closed { is_open self.new file.0 ≡ false }
-        ensures number { (n : ℕ) → n ≢ file.0 → is_open self.new n ≡ is_open self.old n }
-        ensures others { (n : ℕ) → n ≢ file.0 → left self.new n ≡ left self.old n }
-        ensures held { held self.new ≡ held self.old }
-        ensures counted { faults self.new ≡ faults self.old };
+        requires { (state self.old).is_open file.0 ≡ true }
+        ensures leaves { Closes file.0 (state self.old) (state self.new) }
+        ensures counted { (state self.new).faults ≡ (state self.old).faults };
 }

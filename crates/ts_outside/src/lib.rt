@@ -14,7 +14,7 @@ mod stream;
 
 pub use disk::DiskFiles;
 pub use files::{FileNo, Files, Got, Opened};
-pub use laws::{steps_agree, steps_count, steps_gain};
+pub use laws::{files_are_left, open_files_stay, sinks_gain};
 pub use mem_files::{MemFile, MemFiles};
 pub use mem_sink::MemSink;
 pub use name::{FileName, NameFault};

@@ -1,8 +1,9 @@
 //! Files in memory.
 
 ghost use Rattle.std.specs.Prelude.{◌≡◌, ◌≢◌, ◌+◌, ◌^◌, ◌<◌, ◌≤◌, ◌↔◌, [], true, false, ℕ, map, min, length, Option, Some, None, get_or, is_some, take, MatchOption, IfSome, IfOk, OnErr};
-ghost use Rattle.ts_outside.specs.Reading.{bytes_of, Opens, OpensAt, CountsOpened, Fills, Gives, CountsGot};
-ghost use Rattle.ts_outside.specs.Memory.{next_count, fails_at, cut_at, faults_after, left_at};
+ghost use Rattle.ts_outside.specs.States.{ReadsOn, Closes};
+ghost use Rattle.ts_outside.specs.Reading.{bytes_of, Opens, LeavesOpened, CountsOpened, Fills, Gives, CountsGot};
+ghost use Rattle.ts_outside.specs.Memory.{next_count, fails_at, cut_at, faults_after, left_at, shelf_state};
 ghost use Rattle.ts_outside.specs.Holding.{held_of, bytes_at, seat_left};
 
 use crate::files::{FileNo, Files, Got, Opened};
@@ -84,7 +85,7 @@ fn file_bytes(files: &[MemFile], i: usize) -> &[u8]
 }
 
 // What is left of an open file.
-#[tactic(auto, using(crate::proofs::Steps::range_from, crate::proofs::Held::nothing_left))]
+#[tactic(auto, using(crate::proofs::Gains::range_from, crate::proofs::Held::nothing_left))]
 fn rest_of(files: &[MemFile], seat: Seat) -> &[u8]
     ensures value { Some result.now ≡ seat_left files.now (Some seat) }
     ensures room { 0 < length result.now → seat.place + length result.now < 2 ^ 64 }
@@ -147,21 +148,11 @@ impl MemFiles {
 }
 
 impl Files for MemFiles {
-    ghost held = { λ m. Some m.held };
-
-    ghost is_open = { λ m n. is_some (left_at m n) };
-
-    ghost left = { left_at };
-
-    ghost faults = { λ m. m.faults };
+    ghost state = { shelf_state };
 
     fn open(&mut self, name: &FileName) -> Opened
         ensures opens { Opens (Some self.old.held) name.now result (left_at self.new) }
-        ensures number { OpensAt result
-            (λ n. is_some (left_at self.old n)) (λ n. is_some (left_at self.new n)) }
-        ensures others { (n : ℕ) → is_some (left_at self.old n) ≡ true
-            → left_at self.new n ≡ left_at self.old n }
-        ensures held { self.new.held ≡ self.old.held }
+        ensures leaves { LeavesOpened result (shelf_state self.old) (shelf_state self.new) }
         ensures counted { CountsOpened result self.old.faults self.new.faults }
         ensures fails { (result ≡ Opened.Failed) ↔ (fails_at self.old.fails self.old.calls ≡ true) }
         ensures faults { self.new.faults
@@ -191,9 +182,7 @@ impl Files for MemFiles {
         requires room { 0 < length buffer.old }
         ensures fills { Fills result (length buffer.old) }
         ensures gives { Gives (left_at self.old file.0) result buffer.new (left_at self.new file.0) }
-        ensures number { (n : ℕ) → is_some (left_at self.new n) ≡ is_some (left_at self.old n) }
-        ensures others { (n : ℕ) → n ≢ file.0 → left_at self.new n ≡ left_at self.old n }
-        ensures held { self.new.held ≡ self.old.held }
+        ensures leaves { ReadsOn file.0 (shelf_state self.old) (shelf_state self.new) }
         ensures counted { CountsGot result self.old.faults self.new.faults }
         ensures fails { (result ≡ Got.Failed) ↔ (fails_at self.old.fails self.old.calls ≡ true) }
         ensures cut { (n : ℕ) → result ≡ Got.Bytes n → IfSome (left_at self.old file.0)
@@ -218,11 +207,7 @@ impl Files for MemFiles {
 
     fn close(&mut self, file: FileNo)
         requires { is_some (left_at self.old file.0) ≡ true }
-        ensures closed { is_some (left_at self.new file.0) ≡ false }
-        ensures number { (n : ℕ) → n ≢ file.0
-            → is_some (left_at self.new n) ≡ is_some (left_at self.old n) }
-        ensures others { (n : ℕ) → n ≢ file.0 → left_at self.new n ≡ left_at self.old n }
-        ensures held { self.new.held ≡ self.old.held }
+        ensures leaves { Closes file.0 (shelf_state self.old) (shelf_state self.new) }
         ensures counted { self.new.faults ≡ self.old.faults }
         ensures calls { self.new.calls ≡ self.old.calls }
         ensures reads { self.new.reads ≡ self.old.reads }

@@ -3,7 +3,7 @@
 ghost use Rattle.std.specs.Prelude.{◌≡◌, ◌↔◌, ◌++◌, ◌||◌, if◌then◌else◌, IsTrue, false, IfOk};
 ghost use Rattle.std.specs.List.{list_all, list_any};
 ghost use Rattle.ts_outside.specs.Endings.{is_dot, is_slash, last_part, with_ending};
-ghost use Rattle.ts_outside.specs.Agreement.{Agrees};
+ghost use Rattle.ts_base.specs.Agreement.{Agrees};
 ghost use Rattle.ts_outside.specs.Naming.{named, name_cause};
 ghost use Rattle.ts_outside.specs.Names.{is_visible as is_visible_byte, is_file_name};
 

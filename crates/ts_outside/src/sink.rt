@@ -1,7 +1,7 @@
 //! Sinks to write to.
 
 ghost use Rattle.std.specs.Prelude.{◌≡◌, ◌<◌, ℕ, List, Option, length, OnOk, OnErr};
-ghost use Rattle.ts_outside.specs.Agreement.{Counts};
+ghost use Rattle.ts_base.specs.Agreement.{Counts};
 ghost use Rattle.ts_outside.specs.Gaining.{Takes, CountsPut, Gained, GainedPart, put_cause};
 
 use thiserror::Error;

@@ -5,7 +5,8 @@ ghost use Rattle.std.specs.List.{All, flat_map};
 ghost use Rattle.dvi_code.specs.Structure.{is_sound_font};
 ghost use Rattle.dvi_code.specs.Pages.{Widths, file_pages};
 ghost use Rattle.ts_job.specs.Written.{right_bytes, down_bytes, set_bytes, glyph_bytes, page_bytes, end_bytes, file_bytes, HasNumbers};
-ghost use Rattle.ts_job.specs.Meant.{IsShort, FitsGlyph, HasWidths, page_meant};
+ghost use Rattle.ts_geometry.specs.Numbers.{IsWithin};
+ghost use Rattle.ts_job.specs.Meant.{max_coordinate, FitsGlyph, HasWidths, page_meant};
 
 use crate::writer::opcode;
 use crate::writer::piece::{
@@ -23,7 +24,7 @@ pub(crate) struct Glyph {
 }
 
 fn put_right(out: &mut Vec<u8>, along: Sp) -> Result<(), AllocError>
-    requires { IsShort along }
+    requires { IsWithin max_coordinate along.0 }
     ensures { OnOk result (out.new.items ≡ out.old.items ++ right_bytes along) }
 {
     out.push(opcode::RIGHT4)?;
@@ -31,7 +32,7 @@ fn put_right(out: &mut Vec<u8>, along: Sp) -> Result<(), AllocError>
 }
 
 fn put_down(out: &mut Vec<u8>, across: Sp) -> Result<(), AllocError>
-    requires { IsShort across }
+    requires { IsWithin max_coordinate across.0 }
     ensures { OnOk result (out.new.items ≡ out.old.items ++ down_bytes across) }
 {
     out.push(opcode::DOWN4)?;

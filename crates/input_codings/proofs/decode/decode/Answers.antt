@@ -35,7 +35,7 @@ loop-at-preserved c =
       same = c.loop-at.invariant.same ∙ ap (behind_all _) (rw (← c.length_of-at.ensures.value) at step) ∙ behind_one _ c.in-Some-Character.c later ∙ ap (λ (cs : List Char). behind_all cs later) (sym c.in_ok-spaces-in-Some-Character.ensures.all);
     }
 
-pub returns-in-Ok-clause-exact : goal.returns-in-Ok-clause-exact
-returns-in-Ok-clause-exact c =
+pub returns-clause-exact : goal.returns-clause-exact
+returns-clause-exact c =
     let at_end = at_drop_all (decoded_from c.args.coding c.loop-at.state 0 c.loop-at.at) c.args.bytes.now c.loop-at.at c.loop-at-test.false in
-    ap closed (c.loop-at.invariant.same ∙ ap (behind_all _) at_end) ∙ finished c.loop-at.chars c.loop-at.spaces c.loop-at.invariant.whole ∙ ap Ok (sym c.in-Ok.ensures.ok)
+    ap closed (c.loop-at.invariant.same ∙ ap (behind_all _) at_end) ∙ finished c.loop-at.chars c.loop-at.spaces c.loop-at.invariant.whole ∙ ap Ok (sym c.in_ok-push.ensures.ok)

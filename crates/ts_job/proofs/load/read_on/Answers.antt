@@ -1,6 +1,7 @@
 use Rattle.std.proofs.Common.{arith, ◌≡◌, ◌++◌, ◌∙◌, take, refl, ℕ}
 use Rattle.std.proofs.lemmas.Grind.{common_steps}
 use Rattle.std.proofs.lemmas.List.{take-append-le}
+use Rattle.ts_outside.proofs.Leaving.{reads_then}
 use Rattle.ts_job.proofs.Loads.{read_more, read_all}
 use Rattle.ts_job.proofs.load.read_on.Goals as goal
 
@@ -14,9 +15,7 @@ loop-file-preserved g c =
       told = λ left is.
           let so_far = c.loop-file.invariant.told left is in
           read_more _ _ left c.loop-file.bytes.items c.read.new.buffer _ c.in-Bytes.n so_far.1 so_far.0 c.in-Bytes.ensures.gives joined;
-      number = λ n. c.read.ensures.number n ∙ c.loop-file.invariant.number n;
-      others = λ n other. c.read.ensures.others n other ∙ c.loop-file.invariant.others n other;
-      held = c.read.ensures.held ∙ c.loop-file.invariant.held;
+      reads = reads_then c.args.file.0 (g.F.Files.state c.args.files.now) (g.F.Files.state c.loop-file.files) (g.F.Files.state c.read.new.self) c.loop-file.invariant.reads c.read.ensures.leaves;
       counted = c.in-Bytes.ensures.counted ∙ c.loop-file.invariant.counted;
     }
 

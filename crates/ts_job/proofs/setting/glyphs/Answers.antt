@@ -2,6 +2,7 @@ use Rattle.std.proofs.Common.{arith, ap, length, length-append, [], ◌∷◌}
 use Rattle.std.proofs.lemmas.Int.{ints}
 use Rattle.std.proofs.lemmas.List.Elements.{All-push}
 use Rattle.ts_geometry.specs.declared.measure.Measures.{Measures}
+use Rattle.ts_geometry.specs.declared.measure.Sp.{Sp}
 use Rattle.ts_job.specs.declared.writer.page.Glyph.{Glyph}
 use Rattle.ts_job.specs.Meant.{FitsGlyph}
 use Rattle.ts_job.specs.Setting.{HasCell}
@@ -15,7 +16,7 @@ loop-cell-preserved c =
     let so_far = c.loop-cell.invariant in
     let items = c.in_ok-push.ensures.items in
     let width = c.measures.ensures.width in
-    let on = c.right_of-x.ensures in
+    let on = ap (λ (s : Sp). s.0) c.plus-x.ensures in
     let has : HasCell metric c.glyph.result = record { cell = c.cell-item.result; there = c.glyph.ensures.there; code = ap (λ (g : Glyph). g.code) c.glyph.ensures.value; small = rw c.measures.ensures.value at c.measures.ensures.width } in
     record {
       so_far = glyphs_more metric c.loop-cell.x.0 c.args.baseline.0 _ _ cells c.loop-cell.cell-index c.cell-item.result _ _ _ _ c.loop-cell-test.true c.cell-item.is so_far.so_far c.glyph.ensures.value (ap (λ (m : Measures). m.wd.0) c.measures.ensures.value) on items;
@@ -26,5 +27,7 @@ loop-cell-preserved c =
       right = omega (arith, ints, so_far.right, width.1, on);
     }
 
-pub right_of-x-requires-clause-near : goal.right_of-x-requires-clause-near
-right_of-x-requires-clause-near c = (omega (arith, ints, c.loop-cell.invariant.left), omega (arith, ints, c.loop-cell.invariant.right))
+pub plus-x-requires : goal.plus-x-requires
+plus-x-requires c =
+    let width = c.measures.ensures.width in
+    omega (arith, ints, c.loop-cell.invariant.left, c.loop-cell.invariant.right, width.0, width.1)

@@ -11,10 +11,10 @@ returns-clause-exact g c = λ held told.
     let form = seen c.args.form.now in
     let named = rw c.deref.ensures.value at c.in-Ok.ensures in
     let name : with_ending metric_ending form.name ≡ c.in-Ok.name = named_is _ _ named in
-    let read : first_of 262140 (bytes_of held (with_ending metric_ending form.name)) ≡ Ok c.in-Ok-load.bytes.items = rw name (c.in-Ok-load.ensures.exact held told) in
-    let holds = rw c.deref-in-Ok-load.ensures.value at c.hold_metric.ensures in
-    let same = font_metric-read held form c.in-Ok-load.bytes.items read holds in
-    rw same (rw c.deref-in-Ok-load-2.ensures.value at c.built_metric.ensures.exact)
+    let read : first_of 262140 (bytes_of held (with_ending metric_ending form.name)) ≡ Ok c.in_ok-bytes.bytes.items = rw name (c.in_ok-bytes.ensures.exact held told) in
+    let holds = rw c.deref-2.ensures.value at c.hold_metric.ensures in
+    let same = font_metric-read held form c.in_ok-bytes.bytes.items read holds in
+    rw same (rw c.deref-3.ensures.value at c.built_metric.ensures.exact)
 
 pub returns-clause-counted : goal.returns-clause-counted
-returns-clause-counted g c = counts_quiet _ _ _ c.built_metric.ensures.quiet c.in-Ok-load.ensures.counted
+returns-clause-counted g c = counts_quiet _ _ _ c.built_metric.ensures.quiet c.in_ok-bytes.ensures.counted

@@ -11,5 +11,5 @@ returns-in-Ok-clause-exact g c = λ held told.
     let form = seen c.in_ok-form.form in
     let metric = c.in_ok-metric.metric in
     let source = c.in_ok-form.ensures.exact held told in
-    let font = c.in_ok-metric.ensures.exact held (c.in_ok-form.ensures.held ∙ told) in
+    let font = c.in_ok-metric.ensures.exact held (c.in_ok-form.ensures.kept.0 ∙ told) in
     (page_of form metric, typeset-is held (request c.args.asked.now) form metric source font, c.in-Ok.ensures (held_widths held) (widths_held held form metric font))

@@ -1,9 +1,9 @@
 use Rattle.std.proofs.Common.{rules, ◌∙◌}
-use Rattle.ts_outside.proofs.Steps.{gained_more}
+use Rattle.ts_outside.proofs.Gains.{gained_more, not_all}
 use Rattle.ts_outside.proofs.sink.put_all.Goals as goal
 
 pub returns-in-Failed-clause-part : goal.returns-in-Failed-clause-part
-returns-in-Failed-clause-part g c = (c.loop-done.done, c.loop-done-test.true, c.in-Failed.ensures.takes ∙ c.loop-done.invariant.gained)
+returns-in-Failed-clause-part g c = (c.loop-done.done, not_all _ _ c.loop-done-test.true, c.in-Failed.ensures.takes ∙ c.loop-done.invariant.gained)
 
 pub loop-done-preserved : goal.loop-done-preserved
 loop-done-preserved g c = record {

@@ -13,7 +13,7 @@ returns-then-self-gt-MOST_LINES-clause-exact g c =
 pub returns-in_err-count-clause-exact : goal.returns-in_err-count-clause-exact
 returns-in_err-count-clause-exact g c =
     let p = err_from_is_err_and c.from_residual-in_err-count.result c.from_residual-in_err-count.ensures.1 in
-    let keeps = keeps_more c.self.inside.source c.has_more.new.self c.find_end.new.self (g.F.Files.left c.args.files.now) (g.F.Files.left c.has_more.new.files) (g.F.Files.left c.find_end.new.files) c.has_more.ensures.same c.has_more.ensures.bytes c.find_end.ensures.bytes in
+    let keeps = keeps_more c.self.inside.source c.has_more.new.self c.find_end.new.self (g.F.Files.state c.args.files.now).left (g.F.Files.state c.has_more.new.files).left (g.F.Files.state c.find_end.new.files).left c.has_more.ensures.same c.has_more.ensures.bytes c.find_end.ensures.bytes in
     rw (← c.self.view_is, p.1, p.2)
     (λ told. answers_end c.in_err-count.field-0.0 _ c.in_err-count.ensures.quiet
     (λ long. next_long c.self.inside.coding c.self.inside.line_no _ c.find_end.new.self.buffered _ (sym (keeps told).1) c.if-self-gt-MOST_LINES.false (c.in_err-count.ensures.long (ap Err long))))
@@ -26,7 +26,7 @@ line_chars-requires-clause-within g c =
 pub returns-in_err-chars-clause-exact : goal.returns-in_err-chars-clause-exact
 returns-in_err-chars-clause-exact g c =
     let p = err_from_is_err_and c.from_residual-in_err-chars.result c.from_residual-in_err-chars.ensures.1 in
-    let keeps = keeps_more c.self.inside.source c.has_more.new.self c.find_end.new.self (g.F.Files.left c.args.files.now) (g.F.Files.left c.has_more.new.files) (g.F.Files.left c.find_end.new.files) c.has_more.ensures.same c.has_more.ensures.bytes c.find_end.ensures.bytes in
+    let keeps = keeps_more c.self.inside.source c.has_more.new.self c.find_end.new.self (g.F.Files.state c.args.files.now).left (g.F.Files.state c.has_more.new.files).left (g.F.Files.state c.find_end.new.files).left c.has_more.ensures.same c.has_more.ensures.bytes c.find_end.ensures.bytes in
     let more : 0 < length c.has_more.new.self.buffered = c.in_ok-has_more.ensures.more (ap Ok c.if-not-branch.false) in
     let some : 0 < length c.find_end.new.self.buffered = omega (arith, more, c.find_end.ensures.more) in
     let gave = rw c.buffered.ensures at c.in_err-chars.ensures.exact in
@@ -35,7 +35,7 @@ returns-in_err-chars-clause-exact g c =
 
 pub returns-clause-exact : goal.returns-clause-exact
 returns-clause-exact g c =
-    let keeps = keeps_more c.self.inside.source c.has_more.new.self c.find_end.new.self (g.F.Files.left c.args.files.now) (g.F.Files.left c.has_more.new.files) (g.F.Files.left c.find_end.new.files) c.has_more.ensures.same c.has_more.ensures.bytes c.find_end.ensures.bytes in
+    let keeps = keeps_more c.self.inside.source c.has_more.new.self c.find_end.new.self (g.F.Files.state c.args.files.now).left (g.F.Files.state c.has_more.new.files).left (g.F.Files.state c.find_end.new.files).left c.has_more.ensures.same c.has_more.ensures.bytes c.find_end.ensures.bytes in
     let more : 0 < length c.has_more.new.self.buffered = c.in_ok-has_more.ensures.more (ap Ok c.if-not-branch.false) in
     let some : 0 < length c.find_end.new.self.buffered = omega (arith, more, c.find_end.ensures.more) in
     let gave = rw c.buffered.ensures at c.in_ok-chars.ensures.exact in

@@ -1,5 +1,5 @@
-use Rattle.std.proofs.Common.{rules}
-use Rattle.ts_outside.proofs.Held.{left_same, left_of_seat, is_seated, longer_buffer, still_seated}
+use Rattle.std.proofs.Common.{rules, refl}
+use Rattle.ts_outside.proofs.Held.{left_of_seat, opened_seat, keeps_seat, longer_buffer}
 use Rattle.ts_outside.proofs.mem_files.MemFilesFiles.read.Goals as goal
 
 pub returns-clause-gives : goal.returns-clause-gives
@@ -9,10 +9,10 @@ returns-clause-gives c =
     rw (← c.self.view_is, left_of_seat held c.self.inside.seats.items c.args.file.0, left_of_seat held c.give.new.seats.items c.args.file.0)
     (longer_buffer _ c.give.result c.give.new.buffer _ _ (search rules) gave)
 
-pub returns-clause-others : goal.returns-clause-others
-returns-clause-others c = λ n other. rw (← c.self.view_is) (left_same c.self.inside.held.items c.self.inside.seats.items c.give.new.seats.items n (c.give.ensures.others n other))
-
-pub returns-clause-number : goal.returns-clause-number
-returns-clause-number c = λ n.
-    let before = rw (← c.self.view_is) at c.requires.number in
-    rw (← c.self.view_is) (still_seated c.self.inside.held.items c.self.inside.seats.items c.give.new.seats.items c.args.file.0 n c.give.ensures.others c.give.ensures.number (is_seated c.self.inside.held.items c.self.inside.seats.items c.args.file.0 before))
+pub returns-clause-leaves : goal.returns-clause-leaves
+returns-clause-leaves c =
+    let held = c.self.inside.held.items in
+    let old = c.self.inside.seats.items in
+    let new = c.give.new.seats.items in
+    let still = opened_seat held old new c.args.file.0 c.give.ensures.number in
+    rw (← c.self.view_is) (still, λ told. still, (refl, λ n other. keeps_seat held old new n (c.give.ensures.others n other)))

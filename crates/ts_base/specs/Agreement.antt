@@ -1,4 +1,4 @@
--- What a call may answer beside the answer that its arguments determine.
+-- What a call may answer beside the answer that its arguments determine, and when counts of faults rise.
 use Rattle.std.specs.Prelude.{◌≡◌, ℕ, ◌+◌, ◌≤◌, min, Result, Ok, Err}
 
 -- Why a call refuses: its arguments determine the fault; or a call on the outside answered Failed, which is counted;
@@ -16,6 +16,11 @@ abbrev pub ◌>>=◌ : {X Y E : Type 0} → Result X E → (X → Result Y E) �
 
 abbrev pub followed_by : {X Y E : Type 0} → Result X E → (X → Result Y E) → Result Y E
 followed_by first step = first >>= step
+
+-- the same answer, where a fault becomes one of the layer above
+abbrev pub with_fault : {X E D : Type 0} → (E → D) → Result X E → Result X D
+with_fault becomes (Ok x) = Ok x
+with_fault becomes (Err e) = Err (becomes e)
 
 -- a fault of such a cause, where the arguments determine what is given
 abbrev pub AgreesFault : {Y E : Type 0} → Cause → E → Result Y E → Type 0
@@ -46,3 +51,13 @@ CountsFault Free old new = new ≡ old
 abbrev pub Counts : {X E : Type 0} → (E → Cause) → Result X E → ℕ → ℕ → Type 0
 Counts cause (Ok x) old new = new ≡ old
 Counts cause (Err e) old new = CountsFault (cause e) old new
+
+abbrev pub IsUncounted : Cause → Type 0
+IsUncounted Determined = Unit {0}
+IsUncounted Counted = ⊥
+IsUncounted Free = Unit {0}
+
+-- No counted fault was answered.
+abbrev pub Uncounted : {X E : Type 0} → (E → Cause) → Result X E → Type 0
+Uncounted cause (Ok x) = Unit {0}
+Uncounted cause (Err e) = IsUncounted (cause e)
