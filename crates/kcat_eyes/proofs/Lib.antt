@@ -1,3 +1,4 @@
 pub mod Examples
 pub mod Finds
 pub mod Turns
+pub mod Starts

@@ -2,6 +2,7 @@
 
 ghost use Rattle.std.specs.Prelude.{◌≡◌, true, false, IfOk};
 ghost use Rattle.kcat_eyes.specs.StartCodes.{start_cat, start_kcat};
+ghost use Rattle.kcat_eyes.proofs.Starts.{start_bounds};
 
 use crate::find::{Find, in_line};
 use crate::state::State;
@@ -18,7 +19,7 @@ struct Start;
 impl CodeTable for Start {
     ghost codes = { λ _. record { cat = start_cat; kcat = start_kcat } };
 
-    ghost bounds = { λ _. ? };
+    ghost bounds = { λ _. start_bounds };
 
     fn cat(&self, code: u8) -> u8 {
         match code {

@@ -1,6 +1,7 @@
 //! The codes by which characters become tokens.
 
 ghost use Rattle.std.specs.Prelude.{◌≡◌, ◌≤◌};
+ghost use Rattle.std.proofs.Common.{lit≤};
 
 use jis_codes::Cell;
 
@@ -30,8 +31,6 @@ pub trait CodeTable {
 #[cfg(test)]
 mod tests {
     use super::*;
-    ghost use Rattle.std.proofs.Common.{lit≤};
-
     use std::test::Fail;
 
     struct AllOther;

@@ -1,5 +1,5 @@
 -- How one answer after another agrees and counts, also where its fault becomes one of the layer above.
-use Rattle.std.proofs.Common.{◌≡◌, ℕ, Result, Ok, Err, refl, sym, ◌∙◌}
+use Rattle.std.proofs.Common.{◌≡◌, ℕ, Result, Ok, Err, refl, ◌∙◌}
 use Rattle.std.specs.Result.{IsErr, IsErrAnd}
 use mathlib.Core.Bool.{false≢true}
 use Rattle.ts_base.specs.Agreement.{Cause, Determined, Counted, Free, ◌>>=◌, with_fault, AgreesFault, Agrees, CountsFault, Counts, IsUncounted, Uncounted}

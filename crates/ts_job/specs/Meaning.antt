@@ -16,7 +16,7 @@ use Rattle.input_codings.specs.declared.fault.LineFault.{LineFault}
 use Rattle.input_codings.specs.declared.fault.LineFault.TheVariants as lines
 use Rattle.input_codings.specs.declared.fault.OpenFault.{OpenFault}
 use Rattle.input_codings.specs.declared.fault.OpenFault.TheVariants as opens
-use Rattle.input_codings.specs.Lines.{line}
+use Rattle.input_codings.specs.Lines.{opened, next_line}
 use Rattle.jfm_load.specs.Metrics.{Metric, metric_of, class_of, measures_of}
 use Rattle.dvi_code.specs.declared.font.FontDef.{FontDef}
 use Rattle.dvi_code.specs.declared.page.DviPage.{DviPage}
@@ -28,6 +28,12 @@ use Rattle.ts_job.specs.declared.writer.page.Glyph.{Glyph}
 use Rattle.ts_job.specs.Words.{Request}
 use Rattle.ts_job.specs.Form.{Form, form_of}
 use Rattle.ts_job.specs.Meant.{page_meant}
+
+-- a file that isn't there
+abbrev pub open_fault : OpenFault → Stop
+open_fault opens.Missing = stops.Fault FileMissing 0
+open_fault opens.ReadFault = stops.ReadFault
+open_fault opens.NoMemory = stops.NoMemory
 
 -- a fault of the first line
 abbrev pub line_fault : LineFault → Stop
@@ -44,17 +50,12 @@ form_on (Some characters) = form_of characters
 
 -- the first line of the main file
 unfoldable pub first_line : List Held → Request → Result (Option (List Char)) Stop
-first_line files request = ok_or (bytes_of files request.main) (stops.Fault FileMissing 0) >>= λ bytes. with_fault line_fault (line request.coding 1 bytes)
+first_line files request =
+    with_fault open_fault (opened request.coding (bytes_of files request.main)) >>= λ lines. with_fault line_fault (next_line lines) >>= λ next. Ok next.0
 
 -- the form of the main file: later lines aren't needed
 unfoldable pub source_form : List Held → Request → Result Form Stop
 source_form files request = first_line files request >>= λ line. ok_or (form_on line) (stops.Fault FormNotBuilt 0)
-
--- a file that isn't there
-abbrev pub open_fault : OpenFault → Stop
-open_fault opens.Missing = stops.Fault FileMissing 0
-open_fault opens.ReadFault = stops.ReadFault
-open_fault opens.NoMemory = stops.NoMemory
 
 -- a metric's fault is the fault of its font, but for what isn't built yet
 abbrev pub font_fault : MetricFault → Stop

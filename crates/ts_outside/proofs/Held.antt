@@ -1,5 +1,5 @@
 -- Files in memory, by their index.
-use Rattle.std.proofs.Common.{◌≡◌, ◌≢◌, inl, inr, ℕ, zero, suc, ◌≤◌, ◌<◌, List, [], ◌∷◌, ◌++◌, length, drop, map, get_or, Option, Some, None, true, false, is_some, refl, sym, ap, ◌∙◌, arith, length-drop}
+use Rattle.std.proofs.Common.{◌≡◌, ℕ, zero, suc, ◌≤◌, ◌<◌, List, [], ◌∷◌, ◌++◌, length, drop, map, get_or, Option, Some, None, true, false, is_some, refl, sym, ap, ◌∙◌, arith, length-drop}
 use Rattle.std.specs.Str.{bytes_eq}
 use Rattle.std.proofs.lemmas.List.{nil_from_length, take-append-le}
 use Rattle.ts_outside.specs.declared.files.Got.{Got}
@@ -7,7 +7,6 @@ use Rattle.ts_outside.specs.declared.files.Got.TheVariants as got
 use Rattle.ts_outside.specs.declared.mem_files.MemFile.{MemFile}
 use Rattle.ts_outside.specs.declared.mem_files.Seat.{Seat}
 use Rattle.std.proofs.Math.ListN.{get_or-map}
-use Rattle.std.proofs.lemmas.Bool.{cases_eq}
 use Rattle.ts_outside.specs.Reading.{bytes_of, Fills, Gives}
 use Rattle.ts_outside.specs.Holding.{held_of, bytes_at, seat_left}
 

@@ -1,5 +1,5 @@
 -- What calls on files leave, one after another.
-use Rattle.std.proofs.Common.{◌≡◌, ◌≢◌, ℕ, List, [], ◌∷◌, Option, IsSome, true, false, inl, inr, refl, sym, ap, subst, ◌∙◌}
+use Rattle.std.proofs.Common.{◌≡◌, ◌≢◌, ℕ, List, [], ◌∷◌, IsSome, true, false, inl, inr, refl, sym, subst, ◌∙◌}
 use Rattle.std.proofs.lemmas.Bool.{cases_eq}
 use Rattle.ts_outside.specs.States.{FilesState, Keeps, KeepsAll, KeepsOthers, KeepsAllBut, ReadsOn, IsApart, AllOpen, AllTold}
 
@@ -32,11 +32,13 @@ others_among files file old new among keeps = (keeps.0, λ n apart. keeps.1 n (i
 
 pub closed_again : (file : ℕ) (old between new : FilesState) → old.is_open file ≡ false → KeepsOthers file old between → KeepsOthers file between new → new.is_open file ≡ false → KeepsAll old new
 closed_again file old between new fresh first second now =
-    let both = others_then file old between new first second in
-    (both.0, λ n. elim (cases_eq n file) [
-      | inl same ↦ rw same (now ∙ sym fresh, λ was. absurd (closed fresh was))
-      | inr other ↦ both.1 n other
-    ])
+    let both = others_then file old between new first second in (
+      both.0,
+      λ n. elim (cases_eq n file) [
+        | inl same ↦ rw same (now ∙ sym fresh, λ was. absurd (closed fresh was))
+        | inr other ↦ both.1 n other
+      ],
+    )
   where
     closed : old.is_open file ≡ false → old.is_open file ≡ true → ⊥
     closed fresh was = let never : false ≡ true = sym fresh ∙ was in cc
