@@ -1,0 +1,7 @@
+pub mod Unpacked
+pub mod Near
+pub mod Sums
+pub mod Placed
+pub mod Measured
+pub mod Equal
+mod Examples
