@@ -1,4 +1,5 @@
 pub mod Unpacked
+pub mod Weighed
 pub mod Near
 pub mod Sums
 pub mod Placed

@@ -1,5 +1,5 @@
 -- How far from 0 the numbers of a sound item are.
-use Rattle.std.proofs.Common.{ℕ, ◌+◌, ◌^◌, ◌≤◌, ℤ, pos, ◌*ℤ◌, Option, Some, None, Bool, true, false, if◌then◌else◌, arith}
+use Rattle.std.proofs.Common.{ℕ, ◌^◌, ◌≤◌, ℤ, pos, ◌*ℤ◌, Option, Some, None, Bool, true, false, if◌then◌else◌, arith}
 use Rattle.std.proofs.lemmas.Int.{ints, clamps}
 use Rattle.ts_geometry.specs.declared.direction.Dir.{Dir}
 use Rattle.ts_geometry.specs.declared.glue.Glue.{Glue}
@@ -12,9 +12,10 @@ use Rattle.box_tree.specs.declared.node.BoxKind.TheVariants.{Horizontal, Vertica
 use Rattle.box_tree.specs.declared.node.SetGlue.{SetGlue}
 use Rattle.box_tree.specs.declared.node.SetGlue.TheVariants.{Plain as AsIs, Stretch, Shrink}
 use Rattle.box_tree.specs.Bounds.{IsNear, IsDimen, HasDimens, IsDimenIfThere}
+use Rattle.box_tree.specs.Laws.{ItemsLeadNear, ItemPartsAreNear, OffsetsAreNear}
 use Rattle.box_tree.specs.Trees.{BoxTree, node, TreeItem, glyph, kanji, rule, glue, kern, penalty, plain, box, crossed, size_of}
 use Rattle.box_tree.specs.Sound.{IsSoundGlue, IsSoundItem, IsSound}
-use Rattle.box_tree.specs.Offsets.{extent, or_else, measures_or, nothing, same_order, glue_part, item_extent, item_part, share_of, offset}
+use Rattle.box_tree.specs.Offsets.{extent, or_else, measures_or, nothing, same_order, glue_part, share_of}
 use Rattle.box_tree.specs.Places.{item_shift, item_height}
 
 pub farther : (k n : ℕ) (z : ℤ) → k ≤ n → IsNear k z → IsNear n z
@@ -28,10 +29,10 @@ unfolding share_of
 share_of_near part excess total = bounded_near (rounded (part *ℤ excess.0) total.0)
 
 -- an offset is the natural sum and a share
-pub offset_near : (set : SetGlue) (natural part : ℤ) (k : ℕ) → IsNear k natural → IsNear (k + 10 ^ 9) (offset set natural part)
-offset_near AsIs natural part k n = (omega (arith, ints), omega (arith, ints))
-offset_near (Stretch order excess total) natural part k n = let h = share_of_near part excess total in (omega (arith, ints), omega (arith, ints))
-offset_near (Shrink order excess total) natural part k n = let h = share_of_near part excess total in (omega (arith, ints), omega (arith, ints))
+pub offset_near : OffsetsAreNear
+offset_near k AsIs natural part n = (omega (arith, ints), omega (arith, ints))
+offset_near k (Stretch order excess total) natural part n = let h = share_of_near part excess total in (omega (arith, ints), omega (arith, ints))
+offset_near k (Shrink order excess total) natural part n = let h = share_of_near part excess total in (omega (arith, ints), omega (arith, ints))
 
 pub size_sound : (b : BoxTree) → IsSound b → HasDimens (size_of b)
 size_sound (node kind dir size set items) s = s.0
@@ -73,7 +74,7 @@ at_0 = (omega (arith, ints), omega (arith, ints))
 dimen_near : (s : Sp) → IsDimen s → IsNear (2 ^ 32) s.0
 dimen_near s d = farther _ _ s.0 (omega arith) d
 
-pub item_extent_near : (kind : BoxKind) (dir : Dir) (x : TreeItem) → IsSoundItem dir x → IsNear (2 ^ 32) (item_extent kind x)
+pub item_extent_near : ItemsLeadNear
 item_extent_near kind dir (plain (glyph font code size shift first last)) s = extent_near kind size s.0
 item_extent_near kind dir (plain (kanji font cell size k)) s = extent_near kind size s
 item_extent_near kind dir (plain (rule wd ht dp)) s =
@@ -93,7 +94,7 @@ glue_part_near AsIs g s = at_0
 glue_part_near (Stretch order excess total) g s = chosen_near (same_order g.stretch_order order) g.stretch s.stretch
 glue_part_near (Shrink order excess total) g s = chosen_near (same_order g.shrink_order order) g.shrink s.shrink
 
-pub item_part_near : (set : SetGlue) (dir : Dir) (x : TreeItem) → IsSoundItem dir x → IsNear (2 ^ 32) (item_part set x)
+pub item_part_near : ItemPartsAreNear
 item_part_near set dir (plain (glyph font code size shift first last)) s = at_0
 item_part_near set dir (plain (kanji font cell size k)) s = at_0
 item_part_near set dir (plain (rule wd ht dp)) s = at_0

@@ -17,6 +17,7 @@ use Rattle.box_tree.specs.Places.{Frame, item_shift, item_height, place, item_po
 use Rattle.box_tree.specs.Sound.{IsSound, AreSound, IsSoundItem}
 use Rattle.box_tree.specs.Trees.{BoxTree, node, TreeItems, no_items, item, TreeItem, plain, box, crossed, size_of, dir_of}
 use Rattle.box_tree.specs.Weights.{weight, weights, item_weight}
+use Rattle.box_tree.proofs.Weighed.{item_weight_pos}
 use Rattle.box_tree.proofs.Near.{offset_near, size_sound, shift_sound, height_sound, item_extent_near}
 
 point_farther : (k n : ℕ) (p : Point) → k ≤ n → PointIsNear k p → PointIsNear n p
@@ -53,14 +54,6 @@ inner_near k m Dtou at Yoko d h = record { x = (omega (arith, ints), omega (arit
 inner_near k m Dtou at Tate d h = record { x = (omega (arith, ints), omega (arith, ints)); y = (omega (arith, ints), omega (arith, ints)) }
 inner_near k m Dtou at Dtou d h = point_farther _ _ at (omega arith) h
 
-weight_pos : (b : BoxTree) → 1 ≤ weight b
-weight_pos (node kind dir size set items) = omega arith
-
-item_weight_pos : (x : TreeItem) → 1 ≤ item_weight x
-item_weight_pos (plain p) = omega arith
-item_weight_pos (box b shift) = weight_pos b
-item_weight_pos (crossed b shift seen) = weight_pos b
-
 next_near : (i : ℕ) (z w : ℤ) → IsNear (i * 2 ^ 32) z → IsNear (2 ^ 32) w → IsNear ((i + 1) * 2 ^ 32) (z +ℤ w)
 next_near i z w h d = (omega (arith, ints), omega (arith, ints))
 
@@ -68,7 +61,7 @@ next_near i z w h d = (omega (arith, ints), omega (arith, ints))
 point_near : (k i : ℕ) (f : Frame) (natural part : ℤ) (x : TreeItem) → HasDimens f.size → PointIsNear k f.at → IsNear (i * 2 ^ 32) natural → IsSoundItem f.dir x →
     PointIsNear (k + ((i * 2 ^ 32 + 10 ^ 9) + 2 ^ 32)) (item_point f (offset f.set natural part) x)
 point_near k i f natural part x d h n s =
-    place_near k (i * 2 ^ 32 + 10 ^ 9) f.kind f (offset f.set natural part) (item_shift x) (item_height x) d h (offset_near f.set natural part (i * 2 ^ 32) n)
+    place_near k (i * 2 ^ 32 + 10 ^ 9) f.kind f (offset f.set natural part) (item_shift x) (item_height x) d h (offset_near (i * 2 ^ 32) f.set natural part n)
     (shift_sound f.dir x s) (height_sound f.dir x s)
 
 mutual

@@ -1,4 +1,4 @@
--- How the logic stores a box.
+-- How the logic stores a box, its items and an item: an `impl Model` whose value holds one of these says so by `coded`.
 use Rattle.std.specs.Prelude.{◌≡◌, ◌≢◌, ℕ, ℤ, Bool, Option, refl, ◌⊎◌}
 use Rattle.std.proofs.Common.{ap, arith, subst, sym}
 use Rattle.std.specs.Coded.{Coded, code_by, coded×, coded⊎, coded_ℕ, coded_ℤ, coded_bool, coded_option}
@@ -120,7 +120,7 @@ mutual
   items_inj (item x xs) no_items p = absurd (subst IsPair p tt)
   items_inj (item x xs) (item y ys) p = λ i. item (item_inj x y (ap (λ g. head g) p) i) (items_inj xs ys (ap (λ g. tail g) p) i)
 
-  item_inj : (x y : TreeItem) → item_code x ≡ item_code y → x ≡ y
+  pub item_inj : (x y : TreeItem) → item_code x ≡ item_code y → x ≡ y
   item_inj (plain a) (plain b) p = λ i. plain (coded_plain.inj a b (ap (λ g. tail g) p) i)
   item_inj (plain a) (box b s) p = absurd (apart 0 1 p (omega arith))
   item_inj (plain a) (crossed b s m) p = absurd (apart 0 2 p (omega arith))
@@ -134,3 +134,9 @@ mutual
 
 abbrev pub coded_tree : Coded BoxTree
 coded_tree = record { code = tree_code; inj = tree_inj }
+
+abbrev pub coded_items : Coded TreeItems
+coded_items = record { code = items_code; inj = items_inj }
+
+abbrev pub coded_item : Coded TreeItem
+coded_item = record { code = item_code; inj = item_inj }

@@ -1,5 +1,5 @@
 -- Laws of the definitions.
-use Rattle.std.specs.Prelude.{◌≡◌, ◌↔◌, ◌*◌, ◌≤◌, ◌^◌, ◌+ℤ◌, List, [], ◌∷◌, ◌++◌, length, All, IsTrue}
+use Rattle.std.specs.Prelude.{◌≡◌, ◌↔◌, ℕ, ◌+◌, ◌≤◌, ◌^◌, ℤ, ◌+ℤ◌, List, [], ◌∷◌, ◌++◌, length, take, All, IsTrue}
 use Rattle.ts_geometry.specs.declared.direction.Dir.{Dir}
 use Rattle.ts_geometry.specs.declared.measure.Point.{Point}
 use Rattle.ts_geometry.specs.declared.measure.Sp.{Sp}
@@ -9,14 +9,14 @@ use Rattle.box_tree.specs.declared.node.BoxNode.{BoxNode}
 use Rattle.box_tree.specs.declared.node.SetGlue.{SetGlue}
 use Rattle.box_tree.specs.declared.node.Side.{Side}
 use Rattle.box_tree.specs.Bounds.{IsNear, IsDimen, PointIsNear}
-use Rattle.box_tree.specs.Trees.{BoxTree, TreeItems}
-use Rattle.box_tree.specs.Weights.{weight, depth}
+use Rattle.box_tree.specs.Trees.{BoxTree, TreeItems, TreeItem}
+use Rattle.box_tree.specs.Weights.{weight, weights, depth}
 use Rattle.box_tree.specs.Nodes.{tree, tree_item, tree_items}
 use Rattle.box_tree.specs.Unpacking.{node_of, item_list}
 use Rattle.box_tree.specs.Equality.{is_same_tree, are_same_items}
 use Rattle.box_tree.specs.Making.{with_measure}
 use Rattle.box_tree.specs.Sound.{IsSound, AreSound, IsSoundItem}
-use Rattle.box_tree.specs.Offsets.{item_extent, item_part, extents, parts}
+use Rattle.box_tree.specs.Offsets.{item_extent, item_part, extents, parts, offset}
 use Rattle.box_tree.specs.Places.{PlacesAreNear}
 
 -- ---- trees and nodes
@@ -45,7 +45,8 @@ ItemsAreTested = (xs ys : TreeItems) → IsTrue (are_same_items xs ys) ↔ (xs �
 
 -- one other measure leaves a sound box sound, with its weight and its depth
 abbrev pub MeasuresKeepSound : Type 0
-MeasuresKeepSound = (b : BoxTree) (side : Side) (value : Sp) → IsSound b → IsDimen value → IsSound (with_measure b side value)
+MeasuresKeepSound = (b : BoxTree) (side : Side) (value : Sp) →
+    IsSound b → IsDimen value → IsSound (with_measure b side value)
 
 abbrev pub MeasuresKeepWeight : Type 0
 MeasuresKeepWeight = (b : BoxTree) (side : Side) (value : Sp) → weight (with_measure b side value) ≡ weight b
@@ -64,6 +65,17 @@ JoinedAreSound = (dir : Dir) (xs ys : List Item) →
 
 -- ---- sums and places
 
+-- a sound item leads at most 2^32 on, and has at most that much to stretch or to shrink
+abbrev pub ItemsLeadNear : Type 0
+ItemsLeadNear = (kind : BoxKind) (dir : Dir) (x : TreeItem) → IsSoundItem dir x → IsNear (2 ^ 32) (item_extent kind x)
+
+abbrev pub ItemPartsAreNear : Type 0
+ItemPartsAreNear = (set : SetGlue) (dir : Dir) (x : TreeItem) → IsSoundItem dir x → IsNear (2 ^ 32) (item_part set x)
+
+-- an offset is at most 10^9 from the natural sum
+abbrev pub OffsetsAreNear : Type 0
+OffsetsAreNear = (n : ℕ) (set : SetGlue) (natural part : ℤ) → IsNear n natural → IsNear (n + 10 ^ 9) (offset set natural part)
+
 -- the sums after one more item
 abbrev pub ExtentsRun : Type 0
 ExtentsRun = (kind : BoxKind) (xs : List Item) (x : Item) →
@@ -73,13 +85,20 @@ abbrev pub PartsRun : Type 0
 PartsRun = (set : SetGlue) (xs : List Item) (x : Item) →
     parts set (tree_items (xs ++ x ∷ [])) ≡ parts set (tree_items xs) +ℤ item_part set (tree_item x)
 
--- the sums of sound items are at most 2^32 an item away from 0, so within 2^53 for 2,000,000 items
-abbrev pub ExtentsAreNear : Type 0
-ExtentsAreNear = (kind : BoxKind) (dir : Dir) (xs : List Item) → AreSound dir (tree_items xs) → IsNear (length xs * 2 ^ 32) (extents kind (tree_items xs))
+-- the sums of at most 2,000,000 sound items, and those of the first i of them, are at most 2^53 from 0
+abbrev pub RunningExtentsAreNear : Type 0
+RunningExtentsAreNear = (kind : BoxKind) (dir : Dir) (xs : List Item) (i : ℕ) →
+    AreSound dir (tree_items xs) → length xs ≤ 2000000 → IsNear (2 ^ 53) (extents kind (tree_items (take i xs)))
 
-abbrev pub PartsAreNear : Type 0
-PartsAreNear = (set : SetGlue) (dir : Dir) (xs : List Item) → AreSound dir (tree_items xs) → IsNear (length xs * 2 ^ 32) (parts set (tree_items xs))
+abbrev pub RunningPartsAreNear : Type 0
+RunningPartsAreNear = (set : SetGlue) (dir : Dir) (xs : List Item) (i : ℕ) →
+    AreSound dir (tree_items xs) → length xs ≤ 2000000 → IsNear (2 ^ 53) (parts set (tree_items (take i xs)))
+
+-- a list weighs at least 1 an item
+abbrev pub ListsWeigh : Type 0
+ListsWeigh = (xs : List Item) → length xs ≤ weights (tree_items xs)
 
 -- each place of a sound box within the limits that is set from a point within 2^59 is within 2^60
 abbrev pub SoundPlacesAreNear : Type 0
-SoundPlacesAreNear = (b : BoxTree) (at : Point) → IsSound b → weight b ≤ 2000000 → PointIsNear (2 ^ 59) at → PlacesAreNear (2 ^ 60) b at
+SoundPlacesAreNear = (b : BoxTree) (at : Point) →
+    IsSound b → weight b ≤ 2000000 → PointIsNear (2 ^ 59) at → PlacesAreNear (2 ^ 60) b at

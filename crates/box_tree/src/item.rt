@@ -1,12 +1,12 @@
 //! The items of a list.
 
-ghost use Rattle.std.specs.Prelude.{◌≡◌, ◌≤◌, IfOk};
+ghost use Rattle.std.specs.Prelude.{◌≡◌, ◌≤◌, ⊤, IfOk};
 ghost use Rattle.box_tree.specs.Nodes.{tree_item};
 ghost use Rattle.box_tree.specs.Weights.{item_weight, item_depth};
 
 use crate::shared_box::SharedBox;
 use jis_codes::Cell;
-use std::alloc::Global;
+use std::alloc::{AllocError, Global};
 use ts_geometry::{Glue, Measures, Sp};
 use ts_lists::{List, NoMemory};
 
@@ -165,6 +165,17 @@ impl Item {
                 auto: *auto,
             },
         }
+    }
+}
+
+/// A `clone` that is always `Ok`, for a derive or a `Vec` that asks for it.
+impl Clone for Item {
+    ghost is_clone = { λ x copy. copy ≡ x };
+
+    ghost is_infallible = { λ _. ⊤ };
+
+    fn clone(&self) -> Result<Item, AllocError> {
+        Ok(self.same_copy())
     }
 }
 

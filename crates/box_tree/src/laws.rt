@@ -1,6 +1,6 @@
 //! Laws of value trees, sound boxes and their places, over all trees.
 
-ghost use Rattle.box_tree.specs.Laws.{NodesComeBack, TreesComeBack, ItemsComeBack, ListsComeBack, TreesAreTested, ItemsAreTested, MeasuresKeepSound, MeasuresKeepWeight, MeasuresKeepDepth, EachIsSound, JoinedAreSound, ExtentsRun, PartsRun, ExtentsAreNear, PartsAreNear, SoundPlacesAreNear};
+ghost use Rattle.box_tree.specs.Laws.{NodesComeBack, TreesComeBack, ItemsComeBack, ListsComeBack, TreesAreTested, ItemsAreTested, MeasuresKeepSound, MeasuresKeepWeight, MeasuresKeepDepth, EachIsSound, JoinedAreSound, ItemsLeadNear, ItemPartsAreNear, OffsetsAreNear, ExtentsRun, PartsRun, RunningExtentsAreNear, RunningPartsAreNear, ListsWeigh, SoundPlacesAreNear};
 
 /// A tree and the node that it stands for give each other back, and so do the items of both.
 #[tactic(auto, using(crate::proofs::Unpacked::nodes_come_back, crate::proofs::Unpacked::trees_come_back, crate::proofs::Unpacked::items_come_back, crate::proofs::Unpacked::lists_come_back))]
@@ -42,10 +42,20 @@ pub fn sums_run()
     ensures parts { PartsRun }
 {}
 
-/// Each sound item adds at most 2^32 to a sum, either way.
+/// A sound item adds at most 2^32 to a sum, either way, and an offset is at most 10^9 from the
+/// natural sum before it. A list of at most 2,000,000 items has no running sum past 2^53.
 pub fn sums_are_near()
-    ensures extents { ExtentsAreNear }
-    ensures parts { PartsAreNear }
+    ensures extent { ItemsLeadNear }
+    ensures part { ItemPartsAreNear }
+    ensures offset { OffsetsAreNear }
+    ensures extents { RunningExtentsAreNear }
+    ensures parts { RunningPartsAreNear }
+{}
+
+/// A list has no more items than its weight.
+#[tactic(auto, using(crate::proofs::Weighed::lists_weigh))]
+pub fn each_item_weighs_something()
+    ensures { ListsWeigh }
 {}
 
 /// Every place of a sound box within the limits is within 2^60 of 0 where the box is set from a

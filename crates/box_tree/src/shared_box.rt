@@ -1,6 +1,6 @@
 //! Boxes that are shared.
 
-ghost use Rattle.std.specs.Prelude.{◌≡◌, ◌≤◌, ◌+◌, Some, None, IfOk, IfErr, OnOk};
+ghost use Rattle.std.specs.Prelude.{◌≡◌, ◌≤◌, ◌+◌, ⊤, Some, None, IfOk, IfErr, OnOk};
 ghost use Rattle.ts_outside.specs.Agreement.{Agrees};
 ghost use Rattle.box_tree.specs.Weights.{weight, depth, weights, greatest_depth};
 ghost use Rattle.box_tree.specs.Nodes.{tree, tree_items};
@@ -11,7 +11,7 @@ use crate::fault::BoxFault;
 use crate::item::{Item, same_items};
 use crate::node::{BoxNode, Side};
 use shared::Shared;
-use std::alloc::Global;
+use std::alloc::{AllocError, Global};
 use std::marker::Model;
 use ts_geometry::{Measures, Sp};
 use ts_lists::NoMemory;
@@ -134,6 +134,17 @@ impl SharedBox {
             node,
             kept: self.kept,
         })
+    }
+}
+
+/// A `clone` that is always `Ok`, for a derive or a `Vec` that asks for it.
+impl Clone for SharedBox {
+    ghost is_clone = { λ b copy. copy ≡ b };
+
+    ghost is_infallible = { λ _. ⊤ };
+
+    fn clone(&self) -> Result<SharedBox, AllocError> {
+        Ok(self.same_copy())
     }
 }
 

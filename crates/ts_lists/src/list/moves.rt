@@ -5,14 +5,16 @@ ghost use Rattle.std.specs.Prelude.{◌≡◌, [], ◌∷◌, ◌++◌, ◌≤�
 use crate::list::List;
 use crate::memory::NoMemory;
 
-impl<T: Drop> List<T> {
-    /// Returns the list of a vector's elements. Takes no memory.
-    pub fn of_vec(items: Vec<T>) -> List<T>
-        ensures { result ≡ items.items }
-    {
+/// The list of a vector's elements. It takes no memory.
+impl<T> From<Vec<T>> for List<T> {
+    ghost from_gives = { λ v l. l ≡ v.items };
+
+    fn from(items: Vec<T>) -> List<T> {
         List { items }
     }
+}
 
+impl<T: Drop> List<T> {
     /// Returns the vector of its elements. Takes no memory.
     pub fn into_vec(self) -> Vec<T>
         ensures { result.items ≡ self }
