@@ -10,7 +10,7 @@ use Rattle.ts_geometry.specs.Crossings.{inner_point, half}
 use Rattle.ts_geometry.specs.Directions.{step, sp}
 use Rattle.box_tree.specs.declared.node.BoxKind.{BoxKind}
 use Rattle.box_tree.specs.declared.node.BoxKind.TheVariants.{Horizontal, Vertical}
-use Rattle.box_tree.specs.Bounds.{IsNear, IsDimen, HasDimens, PointIsNear}
+use Rattle.box_tree.specs.Bounds.{greatest_dimen, IsNear, IsDimen, HasDimens, PointIsNear}
 use Rattle.box_tree.specs.Laws.{SoundPlacesAreNear}
 use Rattle.box_tree.specs.Offsets.{item_extent, item_part, offset}
 use Rattle.box_tree.specs.Places.{Frame, item_shift, item_height, place, item_point, PlacesAreNear, ItemsAreNear, ItemIsNear}
@@ -36,7 +36,7 @@ place_near k j Horizontal f off shift height d h o s t =
 place_near k j Vertical f off shift height d h o s t =
     step_near k (j + 2 ^ 32) f.at f.dir shift (sp ((off +ℤ height.0) -ℤ f.size.ht.0)) h (omega (arith, ints), omega (arith, ints)) (omega (arith, ints), omega (arith, ints))
 
-half_near : (z : ℤ) → IsNear 1073741823 z → IsNear 1073741823 (half z)
+half_near : (z : ℤ) → IsNear greatest_dimen z → IsNear greatest_dimen (half z)
 half_near (pos a) h = (omega (arith, ints), omega (arith, ints))
 half_near (negsuc a) h = (omega (arith, ints), omega (arith, ints))
 

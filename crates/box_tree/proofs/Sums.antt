@@ -10,6 +10,7 @@ use Rattle.box_tree.specs.declared.node.SetGlue.{SetGlue}
 use Rattle.box_tree.specs.Bounds.{IsNear}
 use Rattle.box_tree.specs.Nodes.{tree_item, tree_items}
 use Rattle.box_tree.specs.Sound.{AreSound, IsSoundItem}
+use Rattle.box_tree.specs.Weights.{most_weight}
 use Rattle.box_tree.specs.Offsets.{extents, parts}
 use Rattle.box_tree.specs.Laws.{ExtentsRun, PartsRun, RunningExtentsAreNear, RunningPartsAreNear, EachIsSound, JoinedAreSound}
 use Rattle.box_tree.proofs.Near.{farther, item_extent_near, item_part_near}
@@ -65,7 +66,7 @@ joined_are_sound dir xs ys = (both_sound dir xs ys, joined_sound dir xs ys)
 front_sound : (dir : Dir) (xs : List Item) (i : ℕ) → AreSound dir (tree_items xs) → AreSound dir (tree_items (take i xs))
 front_sound dir xs i s = all_of dir (take i xs) (All-take (λ x. IsSoundItem dir (tree_item x)) i xs (each_of dir xs s))
 
-front_short : (xs : List Item) (i : ℕ) → length xs ≤ 2000000 → length (take i xs) * 2 ^ 32 ≤ 2 ^ 53
+front_short : (xs : List Item) (i : ℕ) → length xs ≤ most_weight → length (take i xs) * 2 ^ 32 ≤ 2 ^ 53
 front_short xs i l = let h = length-take i xs in omega arith
 
 pub running_extents_are_near : RunningExtentsAreNear

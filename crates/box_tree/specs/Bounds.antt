@@ -8,9 +8,12 @@ use Rattle.ts_geometry.specs.declared.measure.Sp.{Sp}
 abbrev pub IsNear : ℕ → ℤ → Type 0
 IsNear n z = (neg_ℤ (pos n) ≤ℤ z) × (z ≤ℤ pos n)
 
--- a dimension is less than 16384pt (TeX: The Program, section 421)
+-- the greatest dimension: one scaled point less than 16384pt (TeX: The Program, section 421)
+abbrev pub greatest_dimen : ℕ
+greatest_dimen = 1073741823
+
 abbrev pub IsDimen : Sp → Type 0
-IsDimen s = IsNear 1073741823 s.0
+IsDimen s = IsNear greatest_dimen s.0
 
 pub record HasDimens (m : Measures) : Type 0 where
   pub wd : IsDimen m.wd

@@ -10,7 +10,7 @@ use Rattle.box_tree.specs.declared.node.SetGlue.{SetGlue}
 use Rattle.box_tree.specs.declared.node.Side.{Side}
 use Rattle.box_tree.specs.Bounds.{IsNear, IsDimen, PointIsNear}
 use Rattle.box_tree.specs.Trees.{BoxTree, TreeItems, TreeItem}
-use Rattle.box_tree.specs.Weights.{weight, weights, depth}
+use Rattle.box_tree.specs.Weights.{weight, weights, depth, most_weight}
 use Rattle.box_tree.specs.Nodes.{tree, tree_item, tree_items}
 use Rattle.box_tree.specs.Unpacking.{node_of, item_list}
 use Rattle.box_tree.specs.Equality.{is_same_tree, are_same_items}
@@ -88,11 +88,11 @@ PartsRun = (set : SetGlue) (xs : List Item) (x : Item) →
 -- the sums of at most 2,000,000 sound items, and those of the first i of them, are at most 2^53 from 0
 abbrev pub RunningExtentsAreNear : Type 0
 RunningExtentsAreNear = (kind : BoxKind) (dir : Dir) (xs : List Item) (i : ℕ) →
-    AreSound dir (tree_items xs) → length xs ≤ 2000000 → IsNear (2 ^ 53) (extents kind (tree_items (take i xs)))
+    AreSound dir (tree_items xs) → length xs ≤ most_weight → IsNear (2 ^ 53) (extents kind (tree_items (take i xs)))
 
 abbrev pub RunningPartsAreNear : Type 0
 RunningPartsAreNear = (set : SetGlue) (dir : Dir) (xs : List Item) (i : ℕ) →
-    AreSound dir (tree_items xs) → length xs ≤ 2000000 → IsNear (2 ^ 53) (parts set (tree_items (take i xs)))
+    AreSound dir (tree_items xs) → length xs ≤ most_weight → IsNear (2 ^ 53) (parts set (tree_items (take i xs)))
 
 -- a list weighs at least 1 an item
 abbrev pub ListsWeigh : Type 0
@@ -101,4 +101,4 @@ ListsWeigh = (xs : List Item) → length xs ≤ weights (tree_items xs)
 -- each place of a sound box within the limits that is set from a point within 2^59 is within 2^60
 abbrev pub SoundPlacesAreNear : Type 0
 SoundPlacesAreNear = (b : BoxTree) (at : Point) →
-    IsSound b → weight b ≤ 2000000 → PointIsNear (2 ^ 59) at → PlacesAreNear (2 ^ 60) b at
+    IsSound b → weight b ≤ most_weight → PointIsNear (2 ^ 59) at → PlacesAreNear (2 ^ 60) b at

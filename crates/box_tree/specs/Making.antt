@@ -8,7 +8,7 @@ use Rattle.box_tree.specs.declared.node.Side.TheVariants.{Wd, Ht, Dp}
 use Rattle.box_tree.specs.declared.fault.BoxFault.{BoxFault}
 use Rattle.box_tree.specs.declared.fault.BoxFault.TheVariants.{BoxTooLarge, BoxTooDeep, NoMemory}
 use Rattle.box_tree.specs.Trees.{BoxTree, node, TreeItems}
-use Rattle.box_tree.specs.Weights.{weights, greatest_depth}
+use Rattle.box_tree.specs.Weights.{weights, greatest_depth, most_weight, most_depth}
 
 -- the weight as a word of 64 bits has it
 abbrev pub in_word : ℕ → ℕ
@@ -17,8 +17,8 @@ in_word w = min w (2 ^ 64 - 1)
 -- the first limit that a node of these items passes: its weight, and then its depth
 abbrev pub past_limits : TreeItems → Option BoxFault
 past_limits items =
-    if nat_lt 2000000 (1 + weights items) then Some (BoxTooLarge (in_word (1 + weights items)))
-    else (if nat_lt 200 (1 + greatest_depth items) then Some (BoxTooDeep (1 + greatest_depth items)) else None)
+    if nat_lt most_weight (1 + weights items) then Some (BoxTooLarge (in_word (1 + weights items)))
+    else (if nat_lt most_depth (1 + greatest_depth items) then Some (BoxTooDeep (1 + greatest_depth items)) else None)
 
 abbrev pub unless : Option BoxFault → BoxTree → Result BoxTree BoxFault
 unless None b = Ok b

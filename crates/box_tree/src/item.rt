@@ -2,7 +2,7 @@
 
 ghost use Rattle.std.specs.Prelude.{◌≡◌, ◌≤◌, ⊤, IfOk};
 ghost use Rattle.box_tree.specs.Nodes.{tree_item};
-ghost use Rattle.box_tree.specs.Weights.{item_weight, item_depth};
+ghost use Rattle.box_tree.specs.Weights.{item_weight, item_depth, most_weight, most_depth};
 
 use crate::shared_box::SharedBox;
 use jis_codes::Cell;
@@ -87,7 +87,7 @@ impl Item {
     /// Returns its weight: that of the node of a box, and else 1.
     pub fn weight(&self) -> u64
         ensures value { result ≡ item_weight (tree_item self.now) }
-        ensures most { result ≤ 2000000 }
+        ensures most { result ≤ most_weight }
     {
         match self {
             Item::Box { node, .. } | Item::Crossed { node, .. } => node.weight(),
@@ -98,7 +98,7 @@ impl Item {
     /// Returns the depth of the node of a box, and else 0.
     pub fn deepest(&self) -> u32
         ensures value { result ≡ item_depth (tree_item self.now) }
-        ensures most { result ≤ 200 }
+        ensures most { result ≤ most_depth }
     {
         match self {
             Item::Box { node, .. } | Item::Crossed { node, .. } => node.deepest(),

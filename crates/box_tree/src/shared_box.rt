@@ -2,7 +2,7 @@
 
 ghost use Rattle.std.specs.Prelude.{◌≡◌, ◌≤◌, ◌+◌, ⊤, Some, None, IfOk, IfErr, OnOk};
 ghost use Rattle.ts_outside.specs.Agreement.{Agrees};
-ghost use Rattle.box_tree.specs.Weights.{weight, depth, weights, greatest_depth};
+ghost use Rattle.box_tree.specs.Weights.{weight, depth, weights, greatest_depth, most_weight, most_depth};
 ghost use Rattle.box_tree.specs.Nodes.{tree, tree_items};
 ghost use Rattle.box_tree.specs.Keeping.{Keeps};
 ghost use Rattle.box_tree.specs.Making.{boxed, past_limits, box_cause, in_word, with_measure, with_side};
@@ -87,7 +87,7 @@ impl SharedBox {
     /// as often as it is reached.
     pub fn weight(&self) -> u64
         ensures value { result ≡ weight self.now }
-        ensures most { result ≤ 2000000 }
+        ensures most { result ≤ most_weight }
     {
         self.kept.weight
     }
@@ -95,7 +95,7 @@ impl SharedBox {
     /// Returns its depth: 1, and the greatest depth of a box in it.
     pub fn deepest(&self) -> u32
         ensures value { result ≡ depth self.now }
-        ensures most { result ≤ 200 }
+        ensures most { result ≤ most_depth }
     {
         self.kept.depth
     }
@@ -187,7 +187,7 @@ fn kept_of(items: &[Item]) -> Result<Kept, BoxFault>
 fn totals_of(items: &[Item]) -> Kept
     ensures weight { result.weight ≡ in_word (1 + weights (tree_items items.now)) }
     ensures depth { result.depth ≡ 1 + greatest_depth (tree_items items.now) }
-    ensures most { result.depth ≤ 201 }
+    ensures most { result.depth ≤ most_depth + 1 }
 {
     let mut weight: u64 = 1;
     let mut greatest = 0;
