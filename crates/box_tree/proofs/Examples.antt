@@ -9,13 +9,14 @@ use Rattle.ts_geometry.specs.Crossings.{measures}
 use Rattle.ts_geometry.specs.Directions.{sp, point}
 use Rattle.box_tree.specs.declared.item.GlueFrom.TheVariants.{Given}
 use Rattle.box_tree.specs.declared.item.KernFrom.TheVariants.{Given as Command}
+use Rattle.box_tree.specs.declared.frame.Frame.{Frame}
 use Rattle.box_tree.specs.declared.node.BoxKind.TheVariants.{Horizontal, Vertical}
 use Rattle.box_tree.specs.declared.node.SetGlue.TheVariants.{Plain as AsIs, Stretch, Shrink}
 use Rattle.box_tree.specs.declared.node.Side.TheVariants.{Dp}
 use Rattle.box_tree.specs.Equality.{is_same_tree}
 use Rattle.box_tree.specs.Making.{with_measure}
 use Rattle.box_tree.specs.Offsets.{extents, offset_after, share_of}
-use Rattle.box_tree.specs.Places.{Frame, item_point}
+use Rattle.box_tree.specs.Places.{item_point}
 use Rattle.box_tree.specs.Sound.{IsSound, IsSoundItem}
 use Rattle.box_tree.specs.Trees.{rule, glue, kern, penalty, BoxTree, node, TreeItems, no_items, item, TreeItem, plain, box, crossed}
 use Rattle.box_tree.specs.Weights.{weight, depth}

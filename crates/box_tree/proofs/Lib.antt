@@ -1,7 +1,7 @@
 pub mod Unpacked
 pub mod Weighed
 pub mod Near
-pub mod Sums
+pub mod Lists
 pub mod Placed
 pub mod Measured
 pub mod Equal

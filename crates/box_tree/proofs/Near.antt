@@ -24,7 +24,7 @@ farther k n z l h = (omega (arith, ints), omega (arith, ints))
 bounded_near : (z : ℤ) → IsNear (10 ^ 9) (bounded z)
 bounded_near z = (omega (arith, ints, clamps), omega (arith, ints, clamps))
 
-share_of_near : (part : ℤ) (excess total : Sp) → IsNear (10 ^ 9) (share_of part excess total)
+pub share_of_near : (part : ℤ) (excess total : Sp) → IsNear (10 ^ 9) (share_of part excess total)
 unfolding share_of
 share_of_near part excess total = bounded_near (rounded (part *ℤ excess.0) total.0)
 

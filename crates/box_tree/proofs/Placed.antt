@@ -8,12 +8,13 @@ use Rattle.ts_geometry.specs.declared.measure.Point.{Point}
 use Rattle.ts_geometry.specs.declared.measure.Sp.{Sp}
 use Rattle.ts_geometry.specs.Crossings.{inner_point, half}
 use Rattle.ts_geometry.specs.Directions.{step, sp}
+use Rattle.box_tree.specs.declared.frame.Frame.{Frame}
 use Rattle.box_tree.specs.declared.node.BoxKind.{BoxKind}
 use Rattle.box_tree.specs.declared.node.BoxKind.TheVariants.{Horizontal, Vertical}
 use Rattle.box_tree.specs.Bounds.{greatest_dimen, IsNear, IsDimen, HasDimens, PointIsNear}
 use Rattle.box_tree.specs.Laws.{SoundPlacesAreNear}
 use Rattle.box_tree.specs.Offsets.{item_extent, item_part, offset}
-use Rattle.box_tree.specs.Places.{Frame, item_shift, item_height, place, item_point, PlacesAreNear, ItemsAreNear, ItemIsNear}
+use Rattle.box_tree.specs.Places.{item_shift, item_height, place, item_point, PlacesAreNear, ItemsAreNear, ItemIsNear}
 use Rattle.box_tree.specs.Sound.{IsSound, AreSound, IsSoundItem}
 use Rattle.box_tree.specs.Trees.{BoxTree, node, TreeItems, no_items, item, TreeItem, plain, box, crossed, size_of, dir_of}
 use Rattle.box_tree.specs.Weights.{weight, weights, item_weight}

@@ -1,25 +1,24 @@
 -- The places of a set box: the reference points of the box, of its items, and of what is in them.
 use Rattle.std.specs.Prelude.{ℕ, ℤ, pos, ◌+ℤ◌, ◌-ℤ◌}
-use Rattle.ts_geometry.specs.declared.direction.Dir.{Dir}
-use Rattle.ts_geometry.specs.declared.measure.Measures.{Measures}
 use Rattle.ts_geometry.specs.declared.measure.Point.{Point}
 use Rattle.ts_geometry.specs.declared.measure.Sp.{Sp}
 use Rattle.ts_geometry.specs.Directions.{sp, step}
 use Rattle.ts_geometry.specs.Crossings.{inner_point}
 use Rattle.box_tree.specs.declared.node.BoxKind.{BoxKind}
 use Rattle.box_tree.specs.declared.node.BoxKind.TheVariants.{Horizontal, Vertical}
-use Rattle.box_tree.specs.declared.node.SetGlue.{SetGlue}
+use Rattle.box_tree.specs.declared.frame.Frame.{Frame}
+use Rattle.box_tree.specs.declared.frame.Sums.{Sums}
 use Rattle.box_tree.specs.Bounds.{PointIsNear}
 use Rattle.box_tree.specs.Offsets.{or_else, item_extent, item_part, offset}
 use Rattle.box_tree.specs.Trees.{Plain, glyph, kanji, rule, glue, kern, penalty, BoxTree, node, TreeItems, no_items, item, TreeItem, plain, box, crossed, size_of, dir_of}
 
--- a box as the list in it sees it: with the point from which it is set
-pub record Frame : Type 0 where
-  pub kind : BoxKind
-  pub dir : Dir
-  pub size : Measures
-  pub set : SetGlue
-  pub at : Point
+-- a box that is set from a point, as the list in it sees it
+abbrev pub frame_of : BoxTree → Point → Frame
+frame_of (node kind dir size set items) at = record { kind = kind; dir = dir; size = size; set = set; at = at }
+
+-- the sums after an item
+abbrev pub after : Frame → Sums → TreeItem → Sums
+after f s x = record { natural = sp (s.natural.0 +ℤ item_extent f.kind x); part = sp (s.part.0 +ℤ item_part f.set x) }
 
 -- ---- how an item is moved
 

@@ -29,14 +29,14 @@ pub fn a_measure_keeps_a_box_sound()
 {}
 
 /// Items are sound where each of them is, and so are two lists joined where both are.
-#[tactic(auto, using(crate::proofs::Sums::each_is_sound, crate::proofs::Sums::joined_are_sound))]
+#[tactic(auto, using(crate::proofs::Lists::each_is_sound, crate::proofs::Lists::joined_are_sound))]
 pub fn lists_of_sound_items_are_sound()
     ensures each { EachIsSound }
     ensures joined { JoinedAreSound }
 {}
 
 /// One more item adds its extent, and its part of the stretch or shrink that is set.
-#[tactic(auto, using(crate::proofs::Sums::extents_run, crate::proofs::Sums::parts_run))]
+#[tactic(auto, using(crate::proofs::Lists::extents_run, crate::proofs::Lists::parts_run))]
 pub fn sums_run()
     ensures extents { ExtentsRun }
     ensures parts { PartsRun }

@@ -2,6 +2,7 @@
 #![tactic(auto)]
 
 mod fault;
+mod frame;
 mod item;
 pub mod laws;
 mod node;
@@ -10,6 +11,7 @@ mod shared_box;
 mod tests;
 
 pub use fault::BoxFault;
+pub use frame::{Frame, Sums};
 pub use item::{FontNo, GlueFrom, Item, Items, KernFrom, same_items};
 pub use node::{BoxKind, BoxNode, BoxSize, SetGlue, Side};
 pub use shared_box::{SharedBox, past_limits};

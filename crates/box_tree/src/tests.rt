@@ -1,10 +1,16 @@
 //! Boxes in boxes.
 
+ghost use Rattle.std.specs.Prelude.{◌≡◌};
+ghost use Rattle.ts_geometry.specs.Directions.{sp};
+ghost use Rattle.box_tree.specs.Bounds.{IsNear};
+ghost use Rattle.box_tree.specs.Nodes.{tree_item};
+ghost use Rattle.box_tree.specs.Sound.{IsSoundItem};
+
 use crate::*;
 use jis_codes::Cell;
 use std::alloc::Global;
 use std::test::Fail;
-use ts_geometry::{Dir, Glue, Measures, Order, Sp};
+use ts_geometry::{Dir, Glue, Measures, Order, Point, Sp};
 
 const POINT: Measures = Measures {
     wd: Sp(1),
@@ -174,4 +180,57 @@ fn a_copy_of_a_list_has_each_item(rt: HostRuntime) -> Result<(), Fail> {
     let original = format!(in rt.alloc(); "{items:?}").expect(&rt, "memory");
     assert_eq!(rt; printed, original);
     Ok(())
+}
+
+fn glue(width: i64, stretch: i64, order: Order) -> Item
+    requires width { IsNear 100 width }
+    requires stretch { IsNear 100 stretch }
+    ensures { IsSoundItem Dir.Yoko (tree_item result) }
+{
+    Item::Glue {
+        glue: Glue {
+            width: Sp(width),
+            stretch: Sp(stretch),
+            stretch_order: order,
+            shrink: Sp(0),
+            shrink_order: Order::Normal,
+        },
+        from: GlueFrom::Given,
+    }
+}
+
+fn sums(natural: i64, part: i64) -> Sums
+    ensures { result ≡ record { natural = sp natural; part = sp part } }
+{
+    Sums {
+        natural: Sp(natural),
+        part: Sp(part),
+    }
+}
+
+#[test]
+fn stretch_of_the_set_order_alone_moves_items(rt: HostRuntime) {
+    let frame = Frame {
+        kind: BoxKind::Horizontal,
+        dir: Dir::Yoko,
+        size: POINT,
+        set: SetGlue::Stretch(Order::Fil, Sp(8), Sp(4)),
+        at: Point {
+            x: Sp(100),
+            y: Sp(7),
+        },
+    };
+    let finite = frame.after(sums(0, 0), &glue(5, 10, Order::Normal));
+    assert_eq!(rt; (finite.natural, finite.part), (Sp(5), Sp(0)));
+    assert_eq!(rt; frame.offset(sums(5, 0)), Sp(5));
+    let infinite = frame.after(sums(5, 0), &glue(7, 3, Order::Fil));
+    assert_eq!(rt; (infinite.natural, infinite.part), (Sp(12), Sp(3)));
+    assert_eq!(rt; frame.offset(sums(12, 3)), Sp(18));
+    assert_eq!(rt;
+        frame.item_point(Sp(18), &RULE),
+        Point {
+            x: Sp(118),
+            y: Sp(7)
+        }
+    );
 }

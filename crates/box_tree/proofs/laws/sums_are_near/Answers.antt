@@ -1,5 +1,5 @@
 use Rattle.box_tree.proofs.Near.{item_extent_near, item_part_near, offset_near}
-use Rattle.box_tree.proofs.Sums.{running_extents_are_near, running_parts_are_near}
+use Rattle.box_tree.proofs.Lists.{running_extents_are_near, running_parts_are_near}
 use Rattle.box_tree.proofs.laws.sums_are_near.Goals as goal
 
 pub returns-clause-extent : goal.returns-clause-extent
