@@ -1,0 +1,14 @@
+pub mod Trees
+pub mod Weights
+pub mod Nodes
+pub mod Unpacking
+pub mod Making
+pub mod Bounds
+pub mod Sound
+pub mod Offsets
+pub mod Places
+pub mod Equality
+pub mod Laws
+pub mod Keeping
+pub mod Codes
+pub mod Falls
