@@ -1,6 +1,6 @@
 -- Which nodes are boxes, and boxes with another measure.
 use Rattle.std.specs.Prelude.{ℕ, ◌+◌, ◌^◌, ◌-◌, min, nat_lt, if◌then◌else◌, Option, Some, None, Result, Ok, Err}
-use Rattle.ts_outside.specs.Agreement.{Cause, Determined, Free}
+use Rattle.ts_base.specs.Agreement.{Cause, Determined, Free}
 use Rattle.ts_geometry.specs.declared.measure.Measures.{Measures}
 use Rattle.ts_geometry.specs.declared.measure.Sp.{Sp}
 use Rattle.box_tree.specs.declared.node.Side.{Side}

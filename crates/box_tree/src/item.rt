@@ -7,8 +7,8 @@ ghost use Rattle.box_tree.specs.Weights.{item_weight, item_depth, most_weight, m
 use crate::shared_box::SharedBox;
 use jis_codes::Cell;
 use std::alloc::{AllocError, Global};
-use ts_geometry::{Glue, Measures, Sp};
 use ts_base::{List, NoMemory};
+use ts_geometry::{Glue, Measures, Sp};
 
 /// The number of a font, counted from 0 in the order in which fonts were added.
 #[derive(Clone, Copy, Debug, PartialEq, Eq, Hash)]

@@ -1,7 +1,7 @@
 //! Boxes that are shared.
 
 ghost use Rattle.std.specs.Prelude.{◌≡◌, ◌≤◌, ◌+◌, ⊤, Some, None, IfOk, IfErr, OnOk};
-ghost use Rattle.ts_outside.specs.Agreement.{Agrees};
+ghost use Rattle.ts_base.specs.Agreement.{Agrees};
 ghost use Rattle.box_tree.specs.Weights.{weight, depth, weights, greatest_depth, most_weight, most_depth};
 ghost use Rattle.box_tree.specs.Nodes.{tree, tree_items};
 ghost use Rattle.box_tree.specs.Keeping.{Keeps};
@@ -13,8 +13,8 @@ use crate::node::{BoxNode, Side};
 use shared::Shared;
 use std::alloc::{AllocError, Global};
 use std::marker::Model;
-use ts_geometry::{Measures, Sp};
 use ts_base::NoMemory;
+use ts_geometry::{Measures, Sp};
 
 /// The greatest weight of a box.
 const MOST_WEIGHT: u64 = 2_000_000;

@@ -5,17 +5,20 @@ ghost use Rattle.std.specs.List.{list_all, list_any};
 ghost use Rattle.ts_outside.specs.Endings.{is_dot, is_slash, last_part, with_ending};
 ghost use Rattle.ts_base.specs.Agreement.{Agrees};
 ghost use Rattle.ts_outside.specs.Naming.{named, name_cause};
+ghost use Rattle.ts_outside.specs.declared.name.NameFault.TheVariants as faults;
 ghost use Rattle.ts_outside.specs.Names.{is_visible as is_visible_byte, is_file_name};
 
+use shared::Shared;
 use std::alloc::{AllocError, Global};
 use std::marker::Model;
 use thiserror::Error;
+use ts_base::NoMemory;
 
-/// The name of a file: 1 to 255 bytes, each a visible character of ASCII (33 to 126). Contracts
-/// see its bytes.
+/// The name of a file: 1 to 255 bytes, each a visible character of ASCII (33 to 126), which copies
+/// share. Contracts see its bytes.
 #[derive(Debug, Drop)]
 pub struct FileName {
-    bytes: Vec<u8>,
+    bytes: Shared<Vec<u8>>,
 }
 
 impl Model for FileName {
@@ -37,6 +40,22 @@ pub enum NameFault {
     BadName,
     #[error("out of memory")]
     NoMemory,
+}
+
+impl From<AllocError> for NameFault {
+    ghost from_gives = { λ _ fault. fault ≡ faults.NoMemory };
+
+    fn from(_error: AllocError) -> NameFault {
+        NameFault::NoMemory
+    }
+}
+
+impl From<NoMemory> for NameFault {
+    ghost from_gives = { λ _ fault. fault ≡ faults.NoMemory };
+
+    fn from(_error: NoMemory) -> NameFault {
+        NameFault::NoMemory
+    }
 }
 
 fn is_visible(byte: u8) -> bool
@@ -98,10 +117,8 @@ impl FileName {
         if !is_valid(text) {
             return Err(NameFault::BadName);
         }
-        match Vec::from_slice(alloc, text) {
-            Ok(bytes) => Ok(FileName { bytes }),
-            Err(_) => Err(NameFault::NoMemory),
-        }
+        let bytes = Shared::new(alloc, Vec::from_slice(alloc, text)?)?;
+        Ok(FileName { bytes })
     }
 
     /// The name of these bytes, and then of this ending where no dot stands in the part after the
@@ -112,17 +129,24 @@ impl FileName {
         if has_ending(text) {
             return FileName::new(alloc, text);
         }
-        match joined(alloc, text, ending) {
-            Ok(whole) => FileName::new(alloc, &whole),
-            Err(_) => Err(NameFault::NoMemory),
+        let whole = joined(alloc, text, ending)?;
+        FileName::new(alloc, &whole)
+    }
+
+    /// Returns the same name once more. It takes no memory and is never refused.
+    pub fn same_copy(&self) -> FileName
+        ensures { result ≡ self.now }
+    {
+        FileName {
+            bytes: self.bytes.same_copy(),
         }
     }
 
-    /// Its bytes.
+    /// Returns its bytes.
     pub fn bytes(&self) -> &[u8]
         ensures value { result.now ≡ self.now }
         ensures name { IsTrue (is_file_name result.now) }
     {
-        self.bytes.as_slice()
+        self.bytes.get().as_slice()
     }
 }
