@@ -1,0 +1,10 @@
+-- Words for the readers alone: what is left of a table to be read, where some of its entries are.
+use Rattle.std.specs.Prelude.{ℕ, ◌-◌, List, ◌++◌, map, Option, Result}
+use Rattle.ts_geometry.specs.declared.fault.BadKind.{BadKind}
+use Rattle.ts_geometry.specs.declared.fault.MetricFault.{MetricFault}
+use Rattle.metric_words.specs.Words.{words}
+use Rattle.metric_words.specs.Checking.{checked}
+
+-- what is left of a table up to its end, where these entries are read
+abbrev pub left : {A : Type 0} → (ℕ → Option BadKind) → (ℕ → A) → List ℕ → ℕ → ℕ → List A → Result (List A) MetricFault
+left kind value file i end entries = checked i (map kind (words file i (end - i))) (entries ++ map value (words file i (end - i)))
