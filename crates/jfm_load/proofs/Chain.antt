@@ -6,7 +6,7 @@ use Rattle.metric_words.specs.Checking.{checked}
 use Rattle.metric_words.specs.Lengths.{header_start, char_type_start, char_info_start, program_start, kern_start, glue_start, param_start, file_end}
 use Rattle.metric_words.specs.FixWords.{fix_kind, param_kinds, design_kind, design_word}
 use Rattle.metric_words.specs.Programs.{command_kinds}
-use Rattle.metric_words.proofs.Chain.{chained, passed, length-words, length-mapped, length-params, length-characters}
+use Rattle.metric_words.proofs.Chain.{chained, passed, length-words, length-mapped, length-params, length-commands, length-characters}
 use Rattle.jfm_load.specs.CharTypes.{type_kinds, later_type_kinds, type_words}
 use Rattle.jfm_load.specs.Programs.{program_kind, program_words}
 use Rattle.jfm_load.specs.Metrics.{metric_of, lengths_in, kinds_of, spelt, kern_words, glue_words, param_words}
@@ -19,10 +19,6 @@ length-later ec (w ∷ ws) before = ap suc (length-later ec ws _)
 pub length-types : (ec : ℕ) (ws : List ℕ) → length (type_kinds ec ws) ≡ length ws
 length-types ec [] = refl
 length-types ec (w ∷ ws) = ap suc (length-later ec ws 0)
-
-pub length-commands : (kind : ℕ → ℕ → Option BadKind) (place : ℕ) (ws : List ℕ) → length (command_kinds kind place ws) ≡ length ws
-length-commands kind place [] = refl
-length-commands kind place (w ∷ ws) = ap suc (length-commands kind (place + 1) ws)
 
 pub parts_chained : (file : List ℕ) (l : Lengths) → 2 ≤ l.lh → parts_in file l ≡ checked 0 (kinds_of file l) (spelt file l)
 unfolding parts_in kinds_of spelt

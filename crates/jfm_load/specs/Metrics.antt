@@ -35,10 +35,6 @@ pub record Metric : Type 0 where
   pub glues : List ℤ
   pub params : List ℤ
 
--- the first halfword of a JFM: 11 for yoko, 9 for tate
-abbrev pub is_jfm : ℕ → Bool
-is_jfm id = id == 11 || id == 9
-
 -- the 14 halfwords with which a JFM begins
 unfoldable pub lengths_of : List ℕ → Lengths
 lengths_of file = lengths_at file 7 (halfword file 1) 2

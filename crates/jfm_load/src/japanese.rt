@@ -4,8 +4,9 @@ ghost use Rattle.std.specs.Prelude.{◌≡◌, ◌*◌, ◌≤◌, ◌<◌, ◌^
 ghost use Rattle.ts_outside.specs.Agreement.{Agrees};
 ghost use Rattle.metric_words.specs.Words.{halfword};
 ghost use Rattle.metric_words.specs.Checking.{cause};
+ghost use Rattle.metric_words.specs.Lengths.{is_jfm};
 ghost use Rattle.metric_words.specs.Sound.{AreSound, IsWithin};
-ghost use Rattle.jfm_load.specs.Metrics.{metric_of, is_jfm, class_of, measures_of, between_of, param_of};
+ghost use Rattle.jfm_load.specs.Metrics.{metric_of, class_of, measures_of, between_of, param_of};
 ghost use Rattle.jfm_load.specs.Parted.{parts_in};
 ghost use Rattle.jfm_load.specs.Sound.{HasClasses};
 

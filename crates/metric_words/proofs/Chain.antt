@@ -10,6 +10,7 @@ use Rattle.metric_words.specs.Checking.{checked, good}
 use Rattle.metric_words.specs.Lengths.{char_info_start, width_start, height_start, depth_start, italic_start, program_start}
 use Rattle.metric_words.specs.FixWords.{table_kinds, param_kinds}
 use Rattle.metric_words.specs.Characters.{characters_in, characters_of, character_kinds, info_kind, info_words, width_words, height_words, depth_words, italic_words}
+use Rattle.metric_words.specs.Programs.{command_kinds}
 use Rattle.metric_words.specs.Parted.{characters_in_parts}
 
 -- a part, and then what is left where it has no fault
@@ -39,6 +40,10 @@ length-table (w ∷ ws) = rw length-map refl
 pub length-params : (ws : List ℕ) → length (param_kinds ws) ≡ length ws
 length-params [] = refl
 length-params (w ∷ ws) = rw length-map refl
+
+pub length-commands : (kind : ℕ → ℕ → Option BadKind) (place : ℕ) (ws : List ℕ) → length (command_kinds kind place ws) ≡ length ws
+length-commands kind place [] = refl
+length-commands kind place (w ∷ ws) = ap suc (length-commands kind (place + 1) ws)
 
 pub length-append : (a b : List (Option BadKind)) → length (a ++ b) ≡ length a + length b
 length-append [] b = omega arith

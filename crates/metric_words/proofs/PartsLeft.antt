@@ -5,7 +5,9 @@ use Rattle.ts_geometry.specs.declared.fault.MetricFault.{MetricFault}
 use Rattle.ts_geometry.specs.declared.fault.MetricFault.TheVariants.{Bad}
 use Rattle.ts_outside.specs.Agreement.{AgreesFault}
 use Rattle.metric_words.specs.Words.{word, words}
-use Rattle.metric_words.specs.Left.{left}
+use Rattle.metric_words.specs.declared.program.Command.{Command}
+use Rattle.metric_words.specs.Programs.{command_of, command_kinds}
+use Rattle.metric_words.specs.Left.{left, commands_left}
 use Rattle.metric_words.specs.Checking.{checked, cause}
 
 -- what is left of a check, which gives this value
@@ -41,3 +43,22 @@ unchecked-more kind value given file i end w h begun is good = begun ∙ (rw (wo
 pub unchecked-bad : {A : Type 0} (kind : ℕ → Option BadKind) (value : A) (given : Result A MetricFault) (file : List ℕ) (i end w : ℕ) (wrong : BadKind)
     → i < end → given ≡ unchecked kind file i end value → w ≡ word file i → kind w ≡ Some wrong → given ≡ Err (Bad wrong (4 * i))
 unchecked-bad kind value given file i end w wrong h begun is found = begun ∙ (rw (words-more file i end h, ← is, found) refl)
+
+place-more : (file : List ℕ) (start place len : ℕ) → place < len
+    → words file (start + place) (len - place) ≡ word file (start + place) ∷ words file (start + (place + 1)) (len - (place + 1))
+place-more file start place len h =
+    let one : len - place ≡ suc (len - (place + 1)) = omega arith in
+    let on : start + place + 1 ≡ start + (place + 1) = omega arith in
+    rw (one, ← on) refl
+
+pub commands_left-more : (kind : ℕ → ℕ → Option BadKind) (given : Result (List Command) MetricFault) (file : List ℕ) (start place len w : ℕ) (commands commands' : List Command) (c : Command)
+    → place < len → given ≡ commands_left kind file start place len commands → w ≡ word file (start + place) → kind place w ≡ None → c ≡ command_of w → commands' ≡ commands ++ c ∷ []
+    → given ≡ commands_left kind file start (place + 1) len commands'
+commands_left-more kind given file start place len w commands commands' c h left is good made put =
+    let on : start + place + 1 ≡ start + (place + 1) = omega arith in
+    left ∙ (rw (place-more file start place len h, ← is, good, ← made, put, append_assoc, on) refl)
+
+pub commands_left-bad : (kind : ℕ → ℕ → Option BadKind) (given : Result (List Command) MetricFault) (file : List ℕ) (start place len w : ℕ) (commands : List Command) (wrong : BadKind)
+    → place < len → given ≡ commands_left kind file start place len commands → w ≡ word file (start + place) → kind place w ≡ Some wrong
+    → given ≡ Err (Bad wrong (4 * (start + place)))
+commands_left-bad kind given file start place len w commands wrong h left is found = left ∙ (rw (place-more file start place len h, ← is, found) refl)

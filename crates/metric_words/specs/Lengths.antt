@@ -7,6 +7,10 @@ use Rattle.ts_geometry.specs.declared.fault.MetricFault.TheVariants.{Bad}
 use Rattle.metric_words.specs.declared.lengths.Lengths.{Lengths}
 use Rattle.metric_words.specs.Words.{halfword}
 
+-- the first halfword of a JFM: 11 for yoko, 9 for tate; that of a TFM is another one
+abbrev pub is_jfm : ℕ → Bool
+is_jfm id = id == 11 || id == 9
+
 -- the lengths of which the twelve that both formats have begin at that halfword
 unfoldable pub lengths_at : List ℕ → ℕ → ℕ → ℕ → Lengths
 lengths_at file front nt first = record {

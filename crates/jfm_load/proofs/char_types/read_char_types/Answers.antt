@@ -1,5 +1,6 @@
 use Rattle.std.proofs.Common.{arith, sym, ◌∙◌}
-use Rattle.jfm_load.proofs.Left.{types_left-more, types_left-bad, refused}
+use Rattle.metric_words.proofs.PartsLeft.{refused}
+use Rattle.jfm_load.proofs.Left.{types_left-more, types_left-bad}
 use Rattle.jfm_load.proofs.char_types.read_char_types.Goals as goal
 
 pub returns-in-Some-type_kind : goal.returns-in-Some-type_kind

@@ -1,6 +1,6 @@
 use Rattle.std.proofs.Common.{arith, sym, ◌∙◌}
 use Rattle.jfm_load.specs.Programs.{program_kind}
-use Rattle.jfm_load.proofs.Left.{commands_left-more, commands_left-bad, refused}
+use Rattle.metric_words.proofs.PartsLeft.{commands_left-more, commands_left-bad, refused}
 use Rattle.jfm_load.proofs.programs.read_commands.Goals as goal
 
 pub returns-in-Some : goal.returns-in-Some

@@ -1,6 +1,6 @@
 use Rattle.std.proofs.Common.{◌≡◌}
 use Rattle.jfm_load.specs.Programs.{commands_in, program_kind}
-use Rattle.jfm_load.proofs.Left.{commands_left}
+use Rattle.metric_words.specs.Left.{commands_left}
 use Rattle.jfm_load.proofs.programs.read_commands.Given as goal
 
 abbrev pub invariant-loop-place : goal.invariant-loop-place
