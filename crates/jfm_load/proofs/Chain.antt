@@ -1,6 +1,5 @@
 -- The parts that are read one after the other give what all words of the file give.
-use Rattle.std.proofs.Common.{◌≡◌, ℕ, suc, ◌+◌, ◌-◌, ◌/◌, ◌≤◌, List, [], ◌∷◌, length, map, Option, Ok, arith, refl, ap, sym}
-use Rattle.ts_geometry.specs.declared.fault.BadKind.{BadKind}
+use Rattle.std.proofs.Common.{◌≡◌, ℕ, suc, ◌+◌, ◌-◌, ◌/◌, ◌≤◌, List, [], ◌∷◌, length, map, Ok, arith, refl, ap, sym}
 use Rattle.metric_words.specs.declared.lengths.Lengths.{Lengths}
 use Rattle.metric_words.specs.Checking.{checked}
 use Rattle.metric_words.specs.Lengths.{header_start, char_type_start, char_info_start, program_start, kern_start, glue_start, param_start, file_end}

@@ -70,5 +70,5 @@ metric_of_prefix file most h counted = elim (cases_lt most (length file)) [
       same_metric most (take most file) file (same_taken most file) h (rw count_is counted) (omega arith) (omega arith)
 ]
 
-pub count_of_prefix : (file : List ℕ) (most : ℕ) → 6 ≤ most → halfword (take most file) 2 ≡ halfword file 2
-count_of_prefix file most h = same_halfword most (take most file) file (same_taken most file) 2 h
+pub halfword_of_prefix : (file : List ℕ) (most i : ℕ) → 2 * i + 2 ≤ most → halfword (take most file) i ≡ halfword file i
+halfword_of_prefix file most i h = same_halfword most (take most file) file (same_taken most file) i h

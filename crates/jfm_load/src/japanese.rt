@@ -2,9 +2,8 @@
 
 ghost use Rattle.std.specs.Prelude.{◌≡◌, ◌*◌, ◌≤◌, ◌<◌, ◌^◌, true, length};
 ghost use Rattle.ts_outside.specs.Agreement.{Agrees};
-ghost use Rattle.metric_words.specs.Words.{halfword};
 ghost use Rattle.metric_words.specs.Checking.{cause};
-ghost use Rattle.metric_words.specs.Lengths.{is_jfm};
+ghost use Rattle.metric_words.specs.Lengths.{begins_as_jfm};
 ghost use Rattle.metric_words.specs.Sound.{AreSound, IsWithin};
 ghost use Rattle.jfm_load.specs.Metrics.{metric_of, class_of, measures_of, between_of, param_of};
 ghost use Rattle.jfm_load.specs.Parted.{parts_in};
@@ -87,10 +86,10 @@ fn read_parts(alloc: Global, bytes: &[u8], lengths: &Lengths) -> Result<Japanese
 
 /// Reads the metric that a JFM spells (the JFM specification), or its first fault: that of the
 /// lengths or the first bad word. Bytes after the words that it counts are ignored. Refused,
-/// nothing is kept.
+/// nothing is kept. It needs fewer than two bytes, or a first halfword of 11 or 9.
 #[tactic(auto, unfolding(crate::specs::Metrics::metric_of))]
 pub fn read(alloc: Global, bytes: &[u8]) -> Result<Japanese, MetricFault>
-    requires { 2 ≤ length bytes.now → is_jfm (halfword bytes.now 0) ≡ true }
+    requires { 2 ≤ length bytes.now → begins_as_jfm bytes.now ≡ true }
     ensures { Agrees (λ j. j) cause result (metric_of bytes.now) }
 {
     let lengths = read_lengths(bytes)?;

@@ -4,7 +4,7 @@ ghost use Rattle.std.specs.Prelude.{◌<◌, ◌^◌};
 
 use super::*;
 use jis_codes::Cell;
-use metric_words::halfword_at;
+use metric_words::begins_as_jfm;
 use std::alloc::Global;
 use std::test::Fail;
 use ts_geometry::{BadKind, Measures, MetricFault, Sp};
@@ -104,14 +104,14 @@ fn changed(
 
 // What is read of bytes that begin as a JFM does.
 fn read_jfm(alloc: Global, bytes: &[u8]) -> Result<Japanese, Fail> {
-    if bytes.len() >= 2 && halfword_at(bytes, 0) != 11 && halfword_at(bytes, 0) != 9 {
+    if bytes.len() >= 2 && !begins_as_jfm(bytes) {
         return Err(Fail::from("no JFM"));
     }
     Ok(read(alloc, bytes)?)
 }
 
 fn fault_of(alloc: Global, bytes: &[u8]) -> Option<MetricFault> {
-    if bytes.len() >= 2 && halfword_at(bytes, 0) != 11 && halfword_at(bytes, 0) != 9 {
+    if bytes.len() >= 2 && !begins_as_jfm(bytes) {
         return None;
     }
     read(alloc, bytes).err()

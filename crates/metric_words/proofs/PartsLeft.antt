@@ -6,7 +6,7 @@ use Rattle.ts_geometry.specs.declared.fault.MetricFault.TheVariants.{Bad}
 use Rattle.ts_outside.specs.Agreement.{AgreesFault}
 use Rattle.metric_words.specs.Words.{word, words}
 use Rattle.metric_words.specs.declared.program.Command.{Command}
-use Rattle.metric_words.specs.Programs.{command_of, command_kinds}
+use Rattle.metric_words.specs.Programs.{command_of}
 use Rattle.metric_words.specs.Left.{left, commands_left}
 use Rattle.metric_words.specs.Checking.{checked, cause}
 

@@ -1,15 +1,15 @@
 -- The lengths with which a metric file begins, and where they put its parts. A TFM begins with twelve halfwords (TeX: The
 -- Program, section 540); a JFM has its direction and nt, the number of its character types, before them (the JFM specification).
-use Rattle.std.specs.Prelude.{ℕ, ◌+◌, ◌*◌, ◌-◌, Bool, List, length, Result, Ok, Err, ◌==◌, nat_lt, ◌||◌, not, if◌then◌else◌}
+use Rattle.std.specs.Prelude.{ℕ, ◌+◌, ◌*◌, ◌-◌, Bool, List, length, Result, Ok, Err, ◌==◌, nat_lt, nat_le, ◌&&◌, ◌||◌, not, if◌then◌else◌}
 use Rattle.ts_geometry.specs.declared.fault.BadKind.TheVariants.{Truncated, Lengths as WrongLengths}
 use Rattle.ts_geometry.specs.declared.fault.MetricFault.{MetricFault}
 use Rattle.ts_geometry.specs.declared.fault.MetricFault.TheVariants.{Bad}
 use Rattle.metric_words.specs.declared.lengths.Lengths.{Lengths}
 use Rattle.metric_words.specs.Words.{halfword}
 
--- the first halfword of a JFM: 11 for yoko, 9 for tate; that of a TFM is another one
-abbrev pub is_jfm : ℕ → Bool
-is_jfm id = id == 11 || id == 9
+-- Does a file begin as a JFM does, with the halfword 11 for yoko or 9 for tate? That of a TFM is another one.
+abbrev pub begins_as_jfm : List ℕ → Bool
+begins_as_jfm file = nat_le 2 (length file) && (halfword file 0 == 11 || halfword file 0 == 9)
 
 -- the lengths of which the twelve that both formats have begin at that halfword
 unfoldable pub lengths_at : List ℕ → ℕ → ℕ → ℕ → Lengths

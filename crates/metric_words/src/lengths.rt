@@ -43,6 +43,14 @@ pub struct Lengths {
     pub np: u16,
 }
 
+/// Does a metric file begin as a JFM does, with the halfword 11 for yoko or 9 for tate? That of a
+/// TFM is another one.
+pub fn begins_as_jfm(bytes: &[u8]) -> bool
+    ensures { result ≡ spec.begins_as_jfm bytes.now }
+{
+    bytes.len() >= 2 && (halfword_at(bytes, 0) == 11 || halfword_at(bytes, 0) == 9)
+}
+
 impl Lengths {
     /// Reads the lengths that both formats have, which begin at that halfword.
     #[tactic(auto, unfolding(crate::specs::Lengths::lengths_at))]

@@ -1,10 +1,10 @@
 -- A metric is in the words that its file counts: what follows them is ignored.
-use Rattle.std.proofs.Common.{◌≡◌, ℕ, ◌+◌, ◌-◌, ◌*◌, ◌≤◌, inl, inr, Bool, true, false, ◌&&◌, List, [], ◌∷◌, length, take, nat_lt, Ok, arith, refl, ap, take_all, length-take-le}
+use Rattle.std.proofs.Common.{◌≡◌, ℕ, ◌+◌, ◌-◌, ◌*◌, ◌≤◌, inl, inr, Bool, true, false, ◌&&◌, List, [], ◌∷◌, length, take, arith, refl, ap, take_all, length-take-le}
 use Rattle.std.proofs.lemmas.Bool.{cases_lt}
 use Rattle.std.proofs.lemmas.Bool.Decides.{nat_tests}
 use Rattle.metric_words.specs.declared.lengths.Lengths.{Lengths}
 use Rattle.metric_words.specs.Words.{halfword}
-use Rattle.metric_words.specs.Lengths.{lengths_at, contradict, file_end, header_start, char_info_start, program_start, kern_start, param_start, char_count}
+use Rattle.metric_words.specs.Lengths.{lengths_at, contradict, file_end, header_start, char_info_start, program_start, kern_start, param_start}
 use Rattle.metric_words.specs.Programs.{command_of, command_kinds}
 use Rattle.metric_words.proofs.Same.{SameBytes, same_taken, same_halfword, same_word, same_words, same_lengths_at, same_within, same_characters, same_steps, not_short, inside}
 use Rattle.tfm_load.proofs.Chain.{lengths_are}
@@ -90,5 +90,5 @@ metric_of_prefix file most h counted = elim (cases_lt most (length file)) [
       same_metric most (take most file) file (same_taken most file) h (rw count_is counted) (omega arith) (omega arith)
 ]
 
-pub count_of_prefix : (file : List ℕ) (most : ℕ) → 2 ≤ most → halfword (take most file) 0 ≡ halfword file 0
-count_of_prefix file most h = same_halfword most (take most file) file (same_taken most file) 0 h
+pub halfword_of_prefix : (file : List ℕ) (most i : ℕ) → 2 * i + 2 ≤ most → halfword (take most file) i ≡ halfword file i
+halfword_of_prefix file most i h = same_halfword most (take most file) file (same_taken most file) i h

@@ -1,5 +1,5 @@
 -- The metric that a TFM spells, or its first fault, and what a metric says of its characters (TeX: The Program, part 30).
-use Rattle.std.specs.Prelude.{ℕ, ◌+◌, ◌*◌, ◌-◌, ◌/◌, ℤ, Bool, false, List, [], ◌∷◌, length, map, Option, Some, None, Result, Err, nat_lt, nat_le, ◌&&◌, if◌then◌else◌}
+use Rattle.std.specs.Prelude.{ℕ, ◌+◌, ◌-◌, ◌/◌, ℤ, Bool, false, List, [], ◌∷◌, length, map, Option, Some, None, Result, Err, nat_lt, nat_le, ◌&&◌, if◌then◌else◌}
 use Rattle.ts_geometry.specs.declared.fault.BadKind.{BadKind}
 use Rattle.ts_geometry.specs.declared.fault.BadKind.TheVariants.{Truncated}
 use Rattle.ts_geometry.specs.declared.fault.MetricFault.{MetricFault}
@@ -8,14 +8,13 @@ use Rattle.ts_geometry.specs.declared.measure.Measures.{Measures}
 use Rattle.ts_outside.specs.Agreement.{◌>>=◌}
 use Rattle.metric_words.specs.declared.lengths.Lengths.{Lengths}
 use Rattle.metric_words.specs.declared.program.Command.{Command}
-use Rattle.metric_words.specs.Words.{halfword, word, words}
+use Rattle.metric_words.specs.Words.{word, words}
 use Rattle.metric_words.specs.Checking.{checked, good, joined}
-use Rattle.metric_words.specs.Lengths.{lengths_at, lengths_within, header_start, kern_start, glue_start, param_start}
+use Rattle.metric_words.specs.Lengths.{lengths_at, lengths_within, header_start, kern_start, param_start}
 use Rattle.metric_words.specs.FixWords.{fix_of, fix_kind, param_kinds, param_in, design_kind, design_word}
 use Rattle.metric_words.specs.Characters.{Character, characters_of, character_kinds, character_at, measures_at}
 use Rattle.metric_words.specs.Programs.{command_of, command_kinds}
 use Rattle.tfm_load.specs.declared.programs.Step.{Step}
-use Rattle.tfm_load.specs.declared.programs.Step.TheVariants.{Nothing}
 use Rattle.tfm_load.specs.Programs.{program_kind, program_words, step_after}
 
 -- A metric: its check sum, its design size in scaled points, the code of its first character, what each character from this one on

@@ -2,9 +2,8 @@
 
 ghost use Rattle.std.specs.Prelude.{◌≡◌, ◌*◌, ◌≤◌, ◌<◌, ◌^◌, false, true, Some, None, length, IfSome, ◌-◌};
 ghost use Rattle.ts_outside.specs.Agreement.{Agrees};
-ghost use Rattle.metric_words.specs.Words.{halfword};
 ghost use Rattle.metric_words.specs.Checking.{cause};
-ghost use Rattle.metric_words.specs.Lengths.{is_jfm};
+ghost use Rattle.metric_words.specs.Lengths.{begins_as_jfm};
 ghost use Rattle.metric_words.specs.Sound.{AreSound, IsWithin};
 ghost use Rattle.tfm_load.specs.Metrics.{metric_of, has_character, measures_of, program_of, pair_of, param_of};
 ghost use Rattle.tfm_load.specs.Parted.{parts_in};
@@ -72,11 +71,11 @@ fn read_parts(alloc: Global, bytes: &[u8], lengths: &Lengths) -> Result<Roman, M
 }
 
 /// Reads the metric that a TFM spells (TeX: The Program, part 30), or its first fault: that of the
-/// lengths or the first bad word. Bytes after the words that it counts are ignored. Refused, nothing
-/// is kept.
+/// lengths or the first bad word. Bytes after the words that it counts are ignored. Refused,
+/// nothing is kept. It needs fewer than two bytes, or a first halfword that is neither 11 nor 9.
 #[tactic(auto, unfolding(crate::specs::Metrics::metric_of))]
 pub fn read(alloc: Global, bytes: &[u8]) -> Result<Roman, MetricFault>
-    requires { 2 ≤ length bytes.now → is_jfm (halfword bytes.now 0) ≡ false }
+    requires { begins_as_jfm bytes.now ≡ false }
     ensures { Agrees (λ r. r) cause result (metric_of bytes.now) }
 {
     let lengths = read_lengths(bytes)?;

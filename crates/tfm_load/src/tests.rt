@@ -1,7 +1,7 @@
 //! Metrics and their faults.
 
 use super::*;
-use metric_words::halfword_at;
+use metric_words::begins_as_jfm;
 use std::alloc::Global;
 use std::test::Fail;
 use ts_geometry::{BadKind, Measures, MetricFault, Sp};
@@ -76,20 +76,16 @@ fn changed(alloc: Global, len: usize, at: usize, new: &[u8]) -> Result<Vec<u8>, 
     Ok(bytes)
 }
 
-fn is_jfm(bytes: &[u8]) -> bool {
-    bytes.len() >= 2 && (halfword_at(bytes, 0) == 11 || halfword_at(bytes, 0) == 9)
-}
-
 // What is read of bytes that don't begin as a JFM does.
 fn read_tfm(alloc: Global, bytes: &[u8]) -> Result<Roman, Fail> {
-    if is_jfm(bytes) {
+    if begins_as_jfm(bytes) {
         return Err(Fail::from("a JFM"));
     }
     Ok(read(alloc, bytes)?)
 }
 
 fn fault_of(alloc: Global, bytes: &[u8]) -> Option<MetricFault> {
-    if is_jfm(bytes) {
+    if begins_as_jfm(bytes) {
         return None;
     }
     read(alloc, bytes).err()

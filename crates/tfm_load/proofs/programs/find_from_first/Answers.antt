@@ -1,5 +1,5 @@
 use Rattle.std.proofs.Common.{arith, refl, sym, ◌∙◌}
-use Rattle.tfm_load.proofs.Starts.{answer-none, answer-far, answer-counts, answer-ends, answer-goes_on}
+use Rattle.tfm_load.proofs.Starts.{answer-none, answer-counts, answer-ends, answer-goes_on}
 use Rattle.tfm_load.proofs.programs.find_from_first.Goals as goal
 
 pub returns-then-commands-first : goal.returns-then-commands-first
