@@ -18,7 +18,7 @@ const FRONT: [u32; 8] = [
     0x00A0_0000,
 ];
 
-// What follows the characters: f and i join to the character 12, and there is a kern between a and v.
+// What follows the characters: f and i join to the character 12, and a has a kern before v.
 const BACK: [u32; 17] = [
     0,
     0x0008_0000,
