@@ -3,11 +3,9 @@
 ghost use Rattle.std.specs.Prelude.{◌≡◌, ◌≢◌, ◌≤◌, ℕ, List, length, take, Some, Err, IfOk};
 ghost use Rattle.ts_outside.specs.Agreement.{Agrees, Counts};
 ghost use Rattle.ts_outside.specs.Reading.{Held, KeepsAll};
-ghost use Rattle.jfm_load.specs.Metrics.{metric_of};
-ghost use Rattle.jfm_load.specs.Words.{halfword};
 ghost use Rattle.ts_job.specs.FormSeen.{seen};
 ghost use Rattle.ts_job.specs.Loading.{stop_at};
-ghost use Rattle.ts_job.specs.Meaning.{source_form as the_source_form, font_metric as the_font_metric, font_fault, built, line_fault, open_fault, or_fault, form_on as the_form_on, first_line as the_first_line, typeset as the_typeset, stop_cause};
+ghost use Rattle.ts_job.specs.Meaning.{source_form as the_source_form, font_metric as the_font_metric, font_fault, built, may_be_jfm as might_be_jfm, has_programs as the_file_has_programs, line_fault, open_fault, or_fault, form_on as the_form_on, first_line as the_first_line, typeset as the_typeset, stop_cause};
 ghost use Rattle.ts_job.specs.Asked.{request};
 ghost use Rattle.ts_job.specs.Promise.{Sets};
 ghost use Rattle.ts_job.specs.Setting.{IsSound};
@@ -18,9 +16,9 @@ use crate::load::{LoadFault, load};
 use crate::setting::{TEN_POINTS, set};
 use crate::stop::Stop;
 use crate::words::Request;
-use byteorder::{BigEndian, ByteOrder};
 use input_codings::{Line, LineFault, Lines, OpenFault};
 use jfm_load::{Japanese, a_metric_is_in_its_first_words, read};
+use metric_words::{begins_as_jfm, halfword_at};
 use std::alloc::Global;
 use ts_geometry::MetricFault;
 use ts_outside::{FileName, Files};
@@ -43,7 +41,6 @@ fn stop_of_metric(fault: MetricFault) -> Stop
 {
     match fault {
         MetricFault::Bad(kind, at) => Stop::Fault(FaultKind::FontBad(kind, at), 1),
-        MetricFault::NotBuilt => Stop::Fault(FaultKind::FormNotBuilt, 0),
         MetricFault::NoMemory => Stop::NoMemory,
     }
 }
@@ -120,33 +117,45 @@ fn source_form<F: Files>(alloc: Global, files: &mut F, asked: &Request) -> Resul
     form_on(alloc, line)
 }
 
-// The number of words that a metric file has by its own count, of at least six bytes.
-#[tactic(auto, unfolding(jfm_load::specs::Words::halfword))]
-fn word_count(bytes: &[u8]) -> u16
-    requires { 6 ≤ length bytes.now }
-    ensures { result ≡ halfword bytes.now 2 }
+// Is a metric file a JFM, by its first halfword, if it has one?
+fn may_be_jfm(bytes: &[u8]) -> bool
+    ensures { result ≡ might_be_jfm bytes.now }
 {
-    BigEndian::read_u16(&bytes[4..])
+    bytes.len() < 2 || begins_as_jfm(bytes)
+}
+
+// Has a JFM programs, kerns or glue, by its lengths?
+fn has_programs(bytes: &[u8]) -> bool
+    ensures { result ≡ the_file_has_programs bytes.now }
+{
+    28 <= bytes.len()
+        && !(halfword_at(bytes, 10) == 0
+            && halfword_at(bytes, 11) == 0
+            && halfword_at(bytes, 12) == 0)
 }
 
 // Nothing, beside the fact that so many bytes of a file hold the whole of its metric.
 fn hold_metric(bytes: &[u8])
-    ensures { (file : List ℕ) → take 262140 file ≡ bytes.now → metric_of file ≡ metric_of bytes.now }
+    ensures { (file : List ℕ) → take 262140 file ≡ bytes.now → built file ≡ built bytes.now }
 {
     a_metric_is_in_its_first_words();
     if 28 <= bytes.len() {
-        let _count = word_count(bytes);
+        let _count = halfword_at(bytes, 2);
     }
 }
 
-// The metric that bytes spell, if it is for yoko lines of the one size that is built.
+// The metric that bytes spell, if it is for yoko lines of the one size that is built, without
+// programs.
 fn built_metric(alloc: Global, bytes: &[u8]) -> Result<Japanese, Stop>
-    ensures exact { Agrees (λ metric. metric) stop_cause result (built (metric_of bytes.now)) }
+    ensures exact { Agrees (λ metric. metric) stop_cause result (built bytes.now) }
     ensures quiet { result ≢ Err Stop.ReadFault }
 {
+    if !may_be_jfm(bytes) {
+        return Err(Stop::Fault(FaultKind::FormNotBuilt, 0));
+    }
     match read(alloc, bytes) {
         Err(fault) => Err(stop_of_metric(fault)),
-        Ok(metric) if metric.is_tate() || metric.design() != TEN_POINTS => {
+        Ok(metric) if has_programs(bytes) || metric.is_tate() || metric.design() != TEN_POINTS => {
             Err(Stop::Fault(FaultKind::FormNotBuilt, 0))
         }
         Ok(metric) => Ok(metric),
