@@ -7,7 +7,7 @@ use Rattle.ts_geometry.specs.declared.direction.Dir.{Dir}
 use Rattle.box_tree.specs.declared.item.Item.{Item}
 use Rattle.box_tree.specs.declared.node.BoxKind.{BoxKind}
 use Rattle.box_tree.specs.declared.node.SetGlue.{SetGlue}
-use Rattle.box_tree.specs.Bounds.{IsNear}
+use Rattle.ts_geometry.specs.Numbers.{IsWithin}
 use Rattle.box_tree.specs.Nodes.{tree_item, tree_items}
 use Rattle.box_tree.specs.Sound.{AreSound, IsSoundItem}
 use Rattle.box_tree.specs.Weights.{most_weight}
@@ -24,7 +24,7 @@ parts_run set [] x = omega (arith, ints)
 parts_run set (y ∷ ys) x = let h = parts_run set ys x in omega (arith, ints)
 
 extents_near : (kind : BoxKind) (dir : Dir) (xs : List Item) → AreSound dir (tree_items xs) →
-    IsNear (length xs * 2 ^ 32) (extents kind (tree_items xs))
+    IsWithin (length xs * 2 ^ 32) (extents kind (tree_items xs))
 extents_near kind dir [] s = (omega (arith, ints), omega (arith, ints))
 extents_near kind dir (x ∷ xs) s =
     let one = item_extent_near kind dir (tree_item x) s.0 in
@@ -32,7 +32,7 @@ extents_near kind dir (x ∷ xs) s =
     (omega (arith, ints), omega (arith, ints))
 
 parts_near : (set : SetGlue) (dir : Dir) (xs : List Item) → AreSound dir (tree_items xs) →
-    IsNear (length xs * 2 ^ 32) (parts set (tree_items xs))
+    IsWithin (length xs * 2 ^ 32) (parts set (tree_items xs))
 parts_near set dir [] s = (omega (arith, ints), omega (arith, ints))
 parts_near set dir (x ∷ xs) s =
     let one = item_part_near set dir (tree_item x) s.0 in

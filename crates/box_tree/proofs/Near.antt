@@ -11,20 +11,21 @@ use Rattle.box_tree.specs.declared.node.BoxKind.{BoxKind}
 use Rattle.box_tree.specs.declared.node.BoxKind.TheVariants.{Horizontal, Vertical}
 use Rattle.box_tree.specs.declared.node.SetGlue.{SetGlue}
 use Rattle.box_tree.specs.declared.node.SetGlue.TheVariants.{Plain as AsIs, Stretch, Shrink}
-use Rattle.box_tree.specs.Bounds.{IsNear, IsDimen, HasDimens, IsDimenIfThere}
+use Rattle.box_tree.specs.Bounds.{IsDimen, HasDimens, IsDimenIfThere}
+use Rattle.ts_geometry.specs.Numbers.{IsWithin}
 use Rattle.box_tree.specs.Laws.{ItemsLeadNear, ItemPartsAreNear, OffsetsAreNear}
 use Rattle.box_tree.specs.Trees.{BoxTree, node, TreeItem, glyph, kanji, rule, glue, kern, penalty, plain, box, crossed, size_of}
 use Rattle.box_tree.specs.Sound.{IsSoundGlue, IsSoundItem, IsSound}
 use Rattle.box_tree.specs.Offsets.{extent, or_else, measures_or, nothing, same_order, glue_part, share_of}
 use Rattle.box_tree.specs.Places.{item_shift, item_height}
 
-pub farther : (k n : ℕ) (z : ℤ) → k ≤ n → IsNear k z → IsNear n z
+pub farther : (k n : ℕ) (z : ℤ) → k ≤ n → IsWithin k z → IsWithin n z
 farther k n z l h = (omega (arith, ints), omega (arith, ints))
 
-bounded_near : (z : ℤ) → IsNear (10 ^ 9) (bounded z)
+bounded_near : (z : ℤ) → IsWithin (10 ^ 9) (bounded z)
 bounded_near z = (omega (arith, ints, clamps), omega (arith, ints, clamps))
 
-pub share_of_near : (part : ℤ) (excess total : Sp) → IsNear (10 ^ 9) (share_of part excess total)
+pub share_of_near : (part : ℤ) (excess total : Sp) → IsWithin (10 ^ 9) (share_of part excess total)
 unfolding share_of
 share_of_near part excess total = bounded_near (rounded (part *ℤ excess.0) total.0)
 
@@ -64,14 +65,14 @@ height_sound dir (plain (penalty value auto)) s = zero
 height_sound dir (box b shift) s = (size_sound b s.0).ht
 height_sound dir (crossed b shift seen) s = s.1.1.0.ht
 
-extent_near : (kind : BoxKind) (m : Measures) → HasDimens m → IsNear (2 ^ 32) (extent kind m)
+extent_near : (kind : BoxKind) (m : Measures) → HasDimens m → IsWithin (2 ^ 32) (extent kind m)
 extent_near Horizontal m d = (omega (arith, ints, d.wd), omega (arith, ints, d.wd))
 extent_near Vertical m d = (omega (arith, ints, d.ht, d.dp), omega (arith, ints, d.ht, d.dp))
 
-at_0 : IsNear (2 ^ 32) (pos 0)
+at_0 : IsWithin (2 ^ 32) (pos 0)
 at_0 = (omega (arith, ints), omega (arith, ints))
 
-dimen_near : (s : Sp) → IsDimen s → IsNear (2 ^ 32) s.0
+dimen_near : (s : Sp) → IsDimen s → IsWithin (2 ^ 32) s.0
 dimen_near s d = farther _ _ s.0 (omega arith) d
 
 pub item_extent_near : ItemsLeadNear
@@ -85,11 +86,11 @@ item_extent_near kind dir (plain (penalty value auto)) s = at_0
 item_extent_near kind dir (box b shift) s = extent_near kind (size_of b) (size_sound b s.0)
 item_extent_near kind dir (crossed b shift seen) s = extent_near kind seen s.1.1.0
 
-chosen_near : (c : Bool) (s : Sp) → IsDimen s → IsNear (2 ^ 32) (if c then s.0 else pos 0)
+chosen_near : (c : Bool) (s : Sp) → IsDimen s → IsWithin (2 ^ 32) (if c then s.0 else pos 0)
 chosen_near true s d = dimen_near s d
 chosen_near false s d = at_0
 
-glue_part_near : (set : SetGlue) (g : Glue) → IsSoundGlue g → IsNear (2 ^ 32) (glue_part set g)
+glue_part_near : (set : SetGlue) (g : Glue) → IsSoundGlue g → IsWithin (2 ^ 32) (glue_part set g)
 glue_part_near AsIs g s = at_0
 glue_part_near (Stretch order excess total) g s = chosen_near (same_order g.stretch_order order) g.stretch s.stretch
 glue_part_near (Shrink order excess total) g s = chosen_near (same_order g.shrink_order order) g.shrink s.shrink

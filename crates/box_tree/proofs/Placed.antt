@@ -11,7 +11,8 @@ use Rattle.ts_geometry.specs.Directions.{step, sp}
 use Rattle.box_tree.specs.declared.frame.Frame.{Frame}
 use Rattle.box_tree.specs.declared.node.BoxKind.{BoxKind}
 use Rattle.box_tree.specs.declared.node.BoxKind.TheVariants.{Horizontal, Vertical}
-use Rattle.box_tree.specs.Bounds.{greatest_dimen, IsNear, IsDimen, HasDimens, PointIsNear}
+use Rattle.box_tree.specs.Bounds.{IsDimen, HasDimens, PointIsNear}
+use Rattle.ts_geometry.specs.Numbers.{max_dimen, IsWithin}
 use Rattle.box_tree.specs.Laws.{SoundPlacesAreNear}
 use Rattle.box_tree.specs.Offsets.{item_extent, item_part, offset}
 use Rattle.box_tree.specs.Places.{item_shift, item_height, place, item_point, PlacesAreNear, ItemsAreNear, ItemIsNear}
@@ -25,19 +26,19 @@ point_farther : (k n : ℕ) (p : Point) → k ≤ n → PointIsNear k p → Poin
 point_farther k n p l h = record { x = (omega (arith, ints), omega (arith, ints)); y = (omega (arith, ints), omega (arith, ints)) }
 
 -- a step leads away by its longer part at most
-step_near : (k j : ℕ) (p : Point) (dir : Dir) (along across : Sp) → PointIsNear k p → IsNear j along.0 → IsNear j across.0 → PointIsNear (k + j) (step p dir along across)
+step_near : (k j : ℕ) (p : Point) (dir : Dir) (along across : Sp) → PointIsNear k p → IsWithin j along.0 → IsWithin j across.0 → PointIsNear (k + j) (step p dir along across)
 step_near k j p Yoko along across h a c = record { x = (omega (arith, ints), omega (arith, ints)); y = (omega (arith, ints), omega (arith, ints)) }
 step_near k j p Tate along across h a c = record { x = (omega (arith, ints), omega (arith, ints)); y = (omega (arith, ints), omega (arith, ints)) }
 step_near k j p Dtou along across h a c = record { x = (omega (arith, ints), omega (arith, ints)); y = (omega (arith, ints), omega (arith, ints)) }
 
-place_near : (k j : ℕ) (kind : BoxKind) (f : Frame) (off : ℤ) (shift height : Sp) → HasDimens f.size → PointIsNear k f.at → IsNear j off → IsDimen shift → IsDimen height →
+place_near : (k j : ℕ) (kind : BoxKind) (f : Frame) (off : ℤ) (shift height : Sp) → HasDimens f.size → PointIsNear k f.at → IsWithin j off → IsDimen shift → IsDimen height →
     PointIsNear (k + (j + 2 ^ 32)) (place kind f off shift height)
 place_near k j Horizontal f off shift height d h o s t =
     step_near k (j + 2 ^ 32) f.at f.dir (sp off) shift h (omega (arith, ints), omega (arith, ints)) (omega (arith, ints), omega (arith, ints))
 place_near k j Vertical f off shift height d h o s t =
     step_near k (j + 2 ^ 32) f.at f.dir shift (sp ((off +ℤ height.0) -ℤ f.size.ht.0)) h (omega (arith, ints), omega (arith, ints)) (omega (arith, ints), omega (arith, ints))
 
-half_near : (z : ℤ) → IsNear greatest_dimen z → IsNear greatest_dimen (half z)
+half_near : (z : ℤ) → IsWithin max_dimen z → IsWithin max_dimen (half z)
 half_near (pos a) h = (omega (arith, ints), omega (arith, ints))
 half_near (negsuc a) h = (omega (arith, ints), omega (arith, ints))
 
@@ -55,11 +56,11 @@ inner_near k m Dtou at Yoko d h = record { x = (omega (arith, ints), omega (arit
 inner_near k m Dtou at Tate d h = record { x = (omega (arith, ints), omega (arith, ints)); y = (omega (arith, ints), omega (arith, ints)) }
 inner_near k m Dtou at Dtou d h = point_farther _ _ at (omega arith) h
 
-next_near : (i : ℕ) (z w : ℤ) → IsNear (i * 2 ^ 32) z → IsNear (2 ^ 32) w → IsNear ((i + 1) * 2 ^ 32) (z +ℤ w)
+next_near : (i : ℕ) (z w : ℤ) → IsWithin (i * 2 ^ 32) z → IsWithin (2 ^ 32) w → IsWithin ((i + 1) * 2 ^ 32) (z +ℤ w)
 next_near i z w h d = (omega (arith, ints), omega (arith, ints))
 
 -- the reference point of an item after i items
-point_near : (k i : ℕ) (f : Frame) (natural part : ℤ) (x : TreeItem) → HasDimens f.size → PointIsNear k f.at → IsNear (i * 2 ^ 32) natural → IsSoundItem f.dir x →
+point_near : (k i : ℕ) (f : Frame) (natural part : ℤ) (x : TreeItem) → HasDimens f.size → PointIsNear k f.at → IsWithin (i * 2 ^ 32) natural → IsSoundItem f.dir x →
     PointIsNear (k + ((i * 2 ^ 32 + 10 ^ 9) + 2 ^ 32)) (item_point f (offset f.set natural part) x)
 point_near k i f natural part x d h n s =
     place_near k (i * 2 ^ 32 + 10 ^ 9) f.kind f (offset f.set natural part) (item_shift x) (item_height x) d h (offset_near (i * 2 ^ 32) f.set natural part n)
@@ -74,7 +75,7 @@ mutual
   )
 
   items_near : (n k i : ℕ) (f : Frame) (natural part : ℤ) (items : TreeItems) → HasDimens f.size → AreSound f.dir items → PointIsNear k f.at →
-      IsNear (i * 2 ^ 32) natural → k + ((i + 1) + weights items) * 2 ^ 34 ≤ n → ItemsAreNear n f natural part items
+      IsWithin (i * 2 ^ 32) natural → k + ((i + 1) + weights items) * 2 ^ 34 ≤ n → ItemsAreNear n f natural part items
   items_near n k i f natural part no_items d s h z l = tt
   items_near n k i f natural part (item x rest) d s h z l =
       let w = item_weight_pos x in (

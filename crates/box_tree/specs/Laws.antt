@@ -8,7 +8,8 @@ use Rattle.box_tree.specs.declared.node.BoxKind.{BoxKind}
 use Rattle.box_tree.specs.declared.node.BoxNode.{BoxNode}
 use Rattle.box_tree.specs.declared.node.SetGlue.{SetGlue}
 use Rattle.box_tree.specs.declared.node.Side.{Side}
-use Rattle.box_tree.specs.Bounds.{IsNear, IsDimen, PointIsNear}
+use Rattle.box_tree.specs.Bounds.{IsDimen, PointIsNear}
+use Rattle.ts_geometry.specs.Numbers.{IsWithin}
 use Rattle.box_tree.specs.Trees.{BoxTree, TreeItems, TreeItem}
 use Rattle.box_tree.specs.Weights.{weight, weights, depth, most_weight}
 use Rattle.box_tree.specs.Nodes.{tree, tree_item, tree_items}
@@ -67,14 +68,14 @@ JoinedAreSound = (dir : Dir) (xs ys : List Item) →
 
 -- a sound item leads at most 2^32 on, and has at most that much to stretch or to shrink
 abbrev pub ItemsLeadNear : Type 0
-ItemsLeadNear = (kind : BoxKind) (dir : Dir) (x : TreeItem) → IsSoundItem dir x → IsNear (2 ^ 32) (item_extent kind x)
+ItemsLeadNear = (kind : BoxKind) (dir : Dir) (x : TreeItem) → IsSoundItem dir x → IsWithin (2 ^ 32) (item_extent kind x)
 
 abbrev pub ItemPartsAreNear : Type 0
-ItemPartsAreNear = (set : SetGlue) (dir : Dir) (x : TreeItem) → IsSoundItem dir x → IsNear (2 ^ 32) (item_part set x)
+ItemPartsAreNear = (set : SetGlue) (dir : Dir) (x : TreeItem) → IsSoundItem dir x → IsWithin (2 ^ 32) (item_part set x)
 
 -- an offset is at most 10^9 from the natural sum
 abbrev pub OffsetsAreNear : Type 0
-OffsetsAreNear = (n : ℕ) (set : SetGlue) (natural part : ℤ) → IsNear n natural → IsNear (n + 10 ^ 9) (offset set natural part)
+OffsetsAreNear = (n : ℕ) (set : SetGlue) (natural part : ℤ) → IsWithin n natural → IsWithin (n + 10 ^ 9) (offset set natural part)
 
 -- the sums after one more item
 abbrev pub ExtentsRun : Type 0
@@ -88,11 +89,11 @@ PartsRun = (set : SetGlue) (xs : List Item) (x : Item) →
 -- the sums of at most 2,000,000 sound items, and those of the first i of them, are at most 2^53 from 0
 abbrev pub RunningExtentsAreNear : Type 0
 RunningExtentsAreNear = (kind : BoxKind) (dir : Dir) (xs : List Item) (i : ℕ) →
-    AreSound dir (tree_items xs) → length xs ≤ most_weight → IsNear (2 ^ 53) (extents kind (tree_items (take i xs)))
+    AreSound dir (tree_items xs) → length xs ≤ most_weight → IsWithin (2 ^ 53) (extents kind (tree_items (take i xs)))
 
 abbrev pub RunningPartsAreNear : Type 0
 RunningPartsAreNear = (set : SetGlue) (dir : Dir) (xs : List Item) (i : ℕ) →
-    AreSound dir (tree_items xs) → length xs ≤ most_weight → IsNear (2 ^ 53) (parts set (tree_items (take i xs)))
+    AreSound dir (tree_items xs) → length xs ≤ most_weight → IsWithin (2 ^ 53) (parts set (tree_items (take i xs)))
 
 -- a list weighs at least 1 an item
 abbrev pub ListsWeigh : Type 0

@@ -7,12 +7,13 @@ use Rattle.ts_geometry.specs.declared.measure.Sp.{Sp}
 use Rattle.ts_geometry.specs.Crossings.{seen as seen_from}
 use Rattle.box_tree.specs.declared.node.SetGlue.{SetGlue}
 use Rattle.box_tree.specs.declared.node.SetGlue.TheVariants.{Plain as AsIs, Stretch, Shrink}
-use Rattle.box_tree.specs.Bounds.{IsNear, IsDimen, HasDimens, IsDimenIfThere}
+use Rattle.box_tree.specs.Bounds.{IsDimen, HasDimens, IsDimenIfThere}
+use Rattle.ts_geometry.specs.Numbers.{IsWithin}
 use Rattle.box_tree.specs.Trees.{Plain, glyph, kanji, rule, glue, kern, penalty, BoxTree, node, TreeItems, no_items, item, TreeItem, plain, box, crossed, dir_of, size_of}
 
 -- the width of glue may be the sum of a few dimensions
 pub record IsSoundGlue (g : Glue) : Type 0 where
-  pub width : IsNear (2 ^ 32) g.width.0
+  pub width : IsWithin (2 ^ 32) g.width.0
   pub stretch : IsDimen g.stretch
   pub shrink : IsDimen g.shrink
 
@@ -27,8 +28,8 @@ IsSoundPlain (penalty value auto) = Unit {0}
 -- an excess, and the total that takes it
 pub record IsSoundShare (excess total : Sp) : Type 0 where
   pub not_0 : total.0 ≢ pos 0
-  pub excess_near : IsNear (2 ^ 60) excess.0
-  pub total_near : IsNear (2 ^ 60) total.0
+  pub excess_near : IsWithin (2 ^ 60) excess.0
+  pub total_near : IsWithin (2 ^ 60) total.0
 
 abbrev pub IsSoundSet : SetGlue → Type 0
 IsSoundSet AsIs = Unit {0}

@@ -2,7 +2,8 @@
 
 ghost use Rattle.std.specs.Prelude.{◌≡◌, ℤ, pos, neg_ℤ, ◌+ℤ◌, ◌-ℤ◌, ◌≤ℤ◌, ◌^◌};
 ghost use Rattle.ts_geometry.specs.Directions.{sp};
-ghost use Rattle.box_tree.specs.Bounds.{IsNear, IsDimen, HasDimens, IsDimenIfThere, PointIsNear};
+ghost use Rattle.box_tree.specs.Bounds.{IsDimen, HasDimens, IsDimenIfThere, PointIsNear};
+ghost use Rattle.ts_geometry.specs.Numbers.{IsWithin};
 ghost use Rattle.box_tree.specs.Nodes.{tree, tree_item};
 ghost use Rattle.box_tree.specs.Offsets.{extent, or_else, measures_or, item_extent, item_part, glue_part, same_order, share_of, offset};
 ghost use Rattle.box_tree.specs.Places.{frame_of, after, item_shift, item_height, down, place, item_point};
@@ -57,8 +58,8 @@ impl Frame {
     /// Returns the sums after an item.
     pub fn after(&self, sums: Sums, item: &Item) -> Sums
         requires sound { IsSoundItem self.now.dir (tree_item item.now) }
-        requires natural_near { IsNear (2 ^ 58) sums.natural.0 }
-        requires part_near { IsNear (2 ^ 58) sums.part.0 }
+        requires natural_near { IsWithin (2 ^ 58) sums.natural.0 }
+        requires part_near { IsWithin (2 ^ 58) sums.part.0 }
         ensures { result ≡ after self.now sums (tree_item item.now) }
     {
         Sums {
@@ -70,10 +71,10 @@ impl Frame {
     /// Returns the offset of an item before which these sums stand.
     pub fn offset(&self, sums: Sums) -> Sp
         requires sound { IsSoundSet self.now.set }
-        requires natural_near { IsNear (2 ^ 58) sums.natural.0 }
-        requires part_near { IsNear (2 ^ 58) sums.part.0 }
+        requires natural_near { IsWithin (2 ^ 58) sums.natural.0 }
+        requires part_near { IsWithin (2 ^ 58) sums.part.0 }
         ensures value { result ≡ sp (offset self.now.set sums.natural.0 sums.part.0) }
-        ensures near { IsNear (2 ^ 59) result.0 }
+        ensures near { IsWithin (2 ^ 59) result.0 }
     {
         Sp(offset(self.set, sums.natural.0, sums.part.0))
     }
@@ -83,7 +84,7 @@ impl Frame {
         requires size_sound { HasDimens self.now.size }
         requires sound { IsSoundItem self.now.dir (tree_item item.now) }
         requires at_near { PointIsNear (2 ^ 60) self.now.at }
-        requires off_near { IsNear (2 ^ 59) off.0 }
+        requires off_near { IsWithin (2 ^ 59) off.0 }
         ensures { result ≡ item_point self.now off.0 (tree_item item.now) }
     {
         self.place(off.0, self.item_shift(item), self.item_height(item))
@@ -96,7 +97,7 @@ impl Frame {
         requires shift_sound { IsDimen shift }
         requires height_sound { IsDimen height }
         requires at_near { PointIsNear (2 ^ 60) self.now.at }
-        requires off_near { IsNear (2 ^ 59) off }
+        requires off_near { IsWithin (2 ^ 59) off }
         ensures { result ≡ place self.now.kind self.now off shift height }
     {
         match self.kind {
@@ -109,9 +110,9 @@ impl Frame {
     fn down(&self, off: i64, height: Sp) -> i64
         requires size_sound { HasDimens self.now.size }
         requires height_sound { IsDimen height }
-        requires off_near { IsNear (2 ^ 59) off }
+        requires off_near { IsWithin (2 ^ 59) off }
         ensures value { result ≡ down off height self.now.size.ht }
-        ensures near { IsNear (2 ^ 60) result }
+        ensures near { IsWithin (2 ^ 60) result }
     {
         off + height.0 - self.size.ht.0
     }
@@ -120,7 +121,7 @@ impl Frame {
     fn item_extent(&self, item: &Item) -> i64
         requires { IsSoundItem self.now.dir (tree_item item.now) }
         ensures value { result ≡ item_extent self.now.kind (tree_item item.now) }
-        ensures near { IsNear (2 ^ 32) result }
+        ensures near { IsWithin (2 ^ 32) result }
     {
         match item {
             Item::Glyph { size, .. } | Item::Kanji { size, .. } => extent(self.kind, *size),
@@ -137,7 +138,7 @@ impl Frame {
     fn item_part(&self, item: &Item) -> i64
         requires { IsSoundItem self.now.dir (tree_item item.now) }
         ensures value { result ≡ item_part self.now.set (tree_item item.now) }
-        ensures near { IsNear (2 ^ 32) result }
+        ensures near { IsWithin (2 ^ 32) result }
     {
         match item {
             Item::Glue { glue, .. } => glue_part(self.set, glue),
@@ -186,7 +187,7 @@ fn size_of(node: &SharedBox) -> Measures
 fn extent(kind: BoxKind, size: Measures) -> i64
     requires { HasDimens size }
     ensures value { result ≡ extent kind size }
-    ensures near { IsNear (2 ^ 32) result }
+    ensures near { IsWithin (2 ^ 32) result }
 {
     match kind {
         BoxKind::Horizontal => size.wd.0,
@@ -225,7 +226,7 @@ fn or_else(measure: Option<Sp>, other: Sp) -> Sp
 fn glue_part(set: SetGlue, glue: &Glue) -> i64
     requires { IsSoundGlue glue.now }
     ensures value { result ≡ glue_part set glue.now }
-    ensures near { IsNear (2 ^ 32) result }
+    ensures near { IsWithin (2 ^ 32) result }
 {
     match set {
         SetGlue::Stretch(order, _, _) if same_order(glue.stretch_order, order) => glue.stretch.0,
@@ -242,10 +243,10 @@ fn same_order(a: Order, b: Order) -> bool
 
 fn offset(set: SetGlue, natural: i64, part: i64) -> i64
     requires sound { IsSoundSet set }
-    requires natural_near { IsNear (2 ^ 58) natural }
-    requires part_near { IsNear (2 ^ 58) part }
+    requires natural_near { IsWithin (2 ^ 58) natural }
+    requires part_near { IsWithin (2 ^ 58) part }
     ensures value { result ≡ offset set natural part }
-    ensures near { IsNear (2 ^ 59) result }
+    ensures near { IsWithin (2 ^ 59) result }
 {
     match set {
         SetGlue::Plain => natural,
@@ -255,24 +256,24 @@ fn offset(set: SetGlue, natural: i64, part: i64) -> i64
 }
 
 fn sum(a: Sp, b: i64) -> Sp
-    requires a_near { IsNear (2 ^ 58) a.0 }
-    requires b_near { IsNear (2 ^ 32) b }
+    requires a_near { IsWithin (2 ^ 58) a.0 }
+    requires b_near { IsWithin (2 ^ 32) b }
     ensures { result ≡ sp (a.0 +ℤ b) }
 {
     Sp(total(a.0, b))
 }
 
 fn total(a: i64, b: i64) -> i64
-    requires a_near { IsNear (2 ^ 58) a }
-    requires b_near { IsNear (2 ^ 32) b }
+    requires a_near { IsWithin (2 ^ 58) a }
+    requires b_near { IsWithin (2 ^ 32) b }
     ensures { result ≡ a +ℤ b }
 {
     a + b
 }
 
 fn difference(a: i64, b: i64) -> i64
-    requires a_near { IsNear (2 ^ 58) a }
-    requires b_near { IsNear (2 ^ 32) b }
+    requires a_near { IsWithin (2 ^ 58) a }
+    requires b_near { IsWithin (2 ^ 32) b }
     ensures { result ≡ a -ℤ b }
 {
     a - b
@@ -281,9 +282,9 @@ fn difference(a: i64, b: i64) -> i64
 #[tactic(auto, using(crate::proofs::Near::share_of_near, std::proofs::lemmas::Grind::common_steps), unfolding(crate::specs::Offsets::share_of))]
 fn share_of(part: i64, excess: Sp, total: Sp) -> i64
     requires sound { IsSoundShare excess total }
-    requires near { IsNear (2 ^ 58) part }
+    requires near { IsWithin (2 ^ 58) part }
     ensures value { result ≡ share_of part excess total }
-    ensures near { IsNear (10 ^ 9) result }
+    ensures near { IsWithin (10 ^ 9) result }
 {
     share(part, excess.0, total.0)
 }

@@ -2,7 +2,7 @@
 
 ghost use Rattle.std.specs.Prelude.{◌≡◌};
 ghost use Rattle.ts_geometry.specs.Directions.{sp};
-ghost use Rattle.box_tree.specs.Bounds.{IsNear};
+ghost use Rattle.ts_geometry.specs.Numbers.{IsWithin};
 ghost use Rattle.box_tree.specs.Nodes.{tree_item};
 ghost use Rattle.box_tree.specs.Sound.{IsSoundItem};
 
@@ -183,8 +183,8 @@ fn a_copy_of_a_list_has_each_item(rt: HostRuntime) -> Result<(), Fail> {
 }
 
 fn glue(width: i64, stretch: i64, order: Order) -> Item
-    requires width { IsNear 100 width }
-    requires stretch { IsNear 100 stretch }
+    requires width { IsWithin 100 width }
+    requires stretch { IsWithin 100 stretch }
     ensures { IsSoundItem Dir.Yoko (tree_item result) }
 {
     Item::Glue {

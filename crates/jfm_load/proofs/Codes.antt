@@ -1,5 +1,5 @@
 -- What a search finds among codes that rise, and what passes a test of each entry.
-use Rattle.std.proofs.Common.{◌≡◌, ◌≢◌, ℕ, zero, suc, ◌<◌, ◌≤◌, Bool, true, List, [], ◌∷◌, length, get_or, Ok, Err, refl, sym, ap, arith}
+use Rattle.std.proofs.Common.{◌≡◌, ◌≢◌, ℕ, zero, suc, ◌<◌, ◌≤◌, true, List, [], ◌∷◌, length, get_or, Ok, Err, refl, sym, ap, arith}
 use Rattle.std.specs.List.{list_all}
 use Rattle.std.specs.List.Sorted.{IsBinarySearchResult, IsNonDecreasingBy}
 use Rattle.std.specs.Ordering.{nat_cmp, ordering_index}
@@ -7,14 +7,8 @@ use Rattle.std.proofs.lemmas.Cmp.{ranked}
 use Rattle.std.proofs.lemmas.List.Sorted.{IsNonDecreasingBy-from_default}
 use Rattle.std.proofs.lemmas.Bool.Decides.{nat_tests}
 use Rattle.jfm_load.specs.declared.tables.CharType.{CharType}
-use Rattle.jfm_load.specs.Metrics.{class_in}
+use Rattle.jfm_load.specs.CharTypes.{class_in}
 use Rattle.jfm_load.specs.Sound.{rise, rise_from, has_class}
-
--- each entry passes the test
-pub all_at : {X : Type 0} (p : X → Bool) (xs : List X) (i : ℕ) (d : X) → list_all p xs ≡ true → i < length xs → p (get_or xs i d) ≡ true
-all_at p [] i d h lt = absurd (omega arith)
-all_at p (x ∷ xs) zero d h lt = grind (arith, nat_tests)
-all_at p (x ∷ xs) (suc i) d h lt = all_at p xs i d (grind (arith, nat_tests)) (omega arith)
 
 abbrev pub no_type : CharType
 no_type = record { code = 0; class = 0 }

@@ -1,6 +1,7 @@
 mod Examples
-pub mod SoundParts
-pub mod PartsLeft
+pub mod Left
+pub mod SoundTypes
 pub mod Codes
-pub mod Scaling
+pub mod Chain
+pub mod FirstFault
 pub mod Prefix

@@ -1,5 +1,5 @@
-pub mod Words
-pub mod Parts
+pub mod CharTypes
+pub mod Programs
 pub mod Metrics
 pub mod Sound
-pub mod Left
+pub mod Parted

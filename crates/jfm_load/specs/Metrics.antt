@@ -1,93 +1,108 @@
 -- The metric that a JFM spells, or its first fault, and what a metric says of its characters (the JFM specification).
-use Rattle.std.specs.Prelude.{ℕ, ◌-◌, ℤ, pos, Bool, List, [], ◌∷◌, map, slice_index_or, Result, Ok, ◌==◌, if◌then◌else◌}
+use Rattle.std.specs.Prelude.{ℕ, ◌+◌, ◌-◌, ◌/◌, ◌%◌, ℤ, Bool, List, [], ◌∷◌, length, map, Option, Result, Err, ◌==◌, nat_lt, ◌||◌, not, if◌then◌else◌}
+use Rattle.ts_geometry.specs.declared.fault.BadKind.{BadKind}
+use Rattle.ts_geometry.specs.declared.fault.BadKind.TheVariants.{Truncated}
 use Rattle.ts_geometry.specs.declared.fault.MetricFault.{MetricFault}
-use Rattle.ts_geometry.specs.declared.fault.MetricFault.TheVariants.{Bad, NotBuilt, NoMemory}
+use Rattle.ts_geometry.specs.declared.fault.MetricFault.TheVariants.{Bad}
 use Rattle.ts_geometry.specs.declared.measure.Measures.{Measures}
-use Rattle.ts_geometry.specs.Numbers.{scale}
 use Rattle.jis_codes.specs.Kuten.{Kuten}
 use Rattle.jis_codes.specs.Spellings.{jis}
 use Rattle.jis_codes.specs.Numbers.{number_of}
-use Rattle.ts_base.specs.Agreement.{◌>>=◌, Cause, Determined, Free}
+use Rattle.ts_base.specs.Agreement.{◌>>=◌}
+use Rattle.metric_words.specs.declared.lengths.Lengths.{Lengths}
+use Rattle.metric_words.specs.declared.program.Command.{Command}
+use Rattle.metric_words.specs.Words.{halfword, word, words}
+use Rattle.metric_words.specs.Checking.{checked, good, joined}
+use Rattle.metric_words.specs.Lengths.{lengths_at, lengths_within, header_start, kern_start, glue_start, param_start}
+use Rattle.metric_words.specs.FixWords.{fix_of, fix_kind, param_kinds, param_in, design_kind, design_word}
+use Rattle.metric_words.specs.Characters.{Character, characters_of, character_kinds, character_at, measures_at}
+use Rattle.metric_words.specs.Programs.{command_of, command_kinds}
+use Rattle.jfm_load.specs.declared.programs.Space.{Space}
 use Rattle.jfm_load.specs.declared.tables.CharType.{CharType}
-use Rattle.jfm_load.specs.declared.tables.CharInfo.{CharInfo}
-use Rattle.jfm_load.specs.Words.{word}
-use Rattle.jfm_load.specs.Parts.{header_start, lengths_in, design_in, char_types_in, char_infos_in, table_in, params_in, width_start, height_start, depth_start, italic_start, param_start}
+use Rattle.jfm_load.specs.CharTypes.{char_type_of, type_kinds, type_words, class_in}
+use Rattle.jfm_load.specs.Programs.{program_kind, program_words, space_after}
 
--- the measures of a class, as fix words
-pub record FixMeasures : Type 0 where
-  pub width : ℤ
-  pub height : ℤ
-  pub depth : ℤ
-
--- A metric: its direction, its check sum, its design size in scaled points, the classes of the codes that it lists, the
--- measures of each class, and its parameters as fix words.
+-- A metric: its direction, its check sum, its design size in scaled points, the classes of the codes that it lists, what each class
+-- has, its programs with their kerns and glue, and its parameters. Kerns, glue and parameters are fix words.
 pub record Metric : Type 0 where
   pub is_tate : Bool
   pub check_sum : ℕ
   pub design : ℕ
   pub char_types : List CharType
-  pub classes : List FixMeasures
+  pub classes : List Character
+  pub commands : List Command
+  pub kerns : List ℤ
+  pub glues : List ℤ
   pub params : List ℤ
 
--- a class's measures, in the tables of widths, heights and depths
-abbrev pub measures_in : List ℤ → List ℤ → List ℤ → CharInfo → FixMeasures
-measures_in widths heights depths info = record {
-  width = slice_index_or widths info.width (pos 0);
-  height = slice_index_or heights info.height (pos 0);
-  depth = slice_index_or depths info.depth (pos 0);
+-- the 14 halfwords with which a JFM begins
+unfoldable pub lengths_of : List ℕ → Lengths
+lengths_of file = lengths_at file 7 (halfword file 1) 2
+
+-- What else is wrong with lengths: a first class other than 0, no character type, glue that isn't in threes.
+unfoldable pub is_odd : Lengths → Bool
+is_odd l = not (l.bc == 0) || l.nt == 0 || not (l.ng % 3 == 0)
+
+-- the lengths, or what is wrong with them or with the length of the file
+unfoldable pub lengths_in : List ℕ → Result Lengths MetricFault
+lengths_in file =
+    if nat_lt (length file) 28 then Err (Bad Truncated (length file))
+    else lengths_within file (lengths_of file) (is_odd (lengths_of file))
+
+abbrev pub kern_words : List ℕ → Lengths → List ℕ
+kern_words file l = words file (kern_start l) l.nk
+
+abbrev pub glue_words : List ℕ → Lengths → List ℕ
+glue_words file l = words file (glue_start l) l.ng
+
+abbrev pub param_words : List ℕ → Lengths → List ℕ
+param_words file l = words file (param_start l) l.np
+
+-- what is wrong with each word, in the order of the file
+unfoldable pub kinds_of : List ℕ → Lengths → List (Option BadKind)
+kinds_of file l = joined (
+    good (header_start l + 1)
+    ∷ (design_kind (design_word file l) ∷ [])
+    ∷ good (l.lh - 2)
+    ∷ type_kinds l.ec (type_words file l)
+    ∷ character_kinds file l
+    ∷ command_kinds (program_kind l) 0 (program_words file l)
+    ∷ map fix_kind (kern_words file l)
+    ∷ map fix_kind (glue_words file l)
+    ∷ param_kinds (param_words file l)
+    ∷ []
+    )
+
+-- the metric of a file with these lengths
+unfoldable pub spelt : List ℕ → Lengths → Metric
+spelt file l = record {
+  is_tate = halfword file 0 == 9;
+  check_sum = word file (header_start l);
+  design = design_word file l / 16;
+  char_types = map char_type_of (type_words file l);
+  classes = characters_of file l;
+  commands = map command_of (program_words file l);
+  kerns = map fix_of (kern_words file l);
+  glues = map fix_of (glue_words file l);
+  params = map fix_of (param_words file l);
 }
 
--- the metric that a file spells, or its first fault: the lengths and then the parts in their order in the file
+-- The metric that a file spells, or its first fault: that of the lengths, or the first bad word in the order of the file.
 unfoldable pub metric_of : List ℕ → Result Metric MetricFault
-metric_of file = do
-  l ← lengths_in file
-  design ← design_in file
-  char_types ← char_types_in file l
-  char_infos ← char_infos_in file l
-  widths ← table_in file (width_start l) l.nw
-  heights ← table_in file (height_start l) l.nh
-  depths ← table_in file (depth_start l) l.nd
-  italics ← table_in file (italic_start l) l.ni
-  params ← params_in file (param_start l) l.np
-  Ok (record {
-    is_tate = l.id == 9;
-    check_sum = word file header_start;
-    design = design;
-    char_types = char_types;
-    classes = map (measures_in widths heights depths) char_infos;
-    params = params;
-  })
-
--- the bytes determine each fault but want of memory
-abbrev pub cause : MetricFault → Cause
-cause (Bad kind at) = Determined
-cause NotBuilt = Determined
-cause NoMemory = Free
-
--- the class of a code: 0 where it isn't listed
-abbrev pub class_in : List CharType → ℕ → ℕ
-class_in [] code = 0
-class_in (t ∷ ts) code = if t.code == code then t.class else class_in ts code
+metric_of file = lengths_in file >>= λ l. checked 0 (kinds_of file l) (spelt file l)
 
 -- the class of a cell
 abbrev pub class_of : Metric → Kuten → ℕ
 class_of m cell = class_in m.char_types (number_of jis cell)
 
-abbrev pub no_measures : FixMeasures
-no_measures = record { width = pos 0; height = pos 0; depth = pos 0 }
-
--- the measures of a class, as fix words
-abbrev pub fix_measures_of : Metric → ℕ → FixMeasures
-fix_measures_of m class = slice_index_or m.classes class no_measures
-
 -- the measures of a class at a size of so many scaled points
 abbrev pub measures_of : Metric → ℕ → ℕ → Measures
-measures_of m class z = let f = fix_measures_of m class in record {
-  wd = record { 0 = scale f.width z };
-  ht = record { 0 = scale f.height z };
-  dp = record { 0 = scale f.depth z };
-}
+measures_of m class z = measures_at (character_at m.classes class) z
+
+-- the space between a class and the next one: nothing where the first is no class of the font
+abbrev pub between_of : Metric → ℕ → ℕ → Space
+between_of m left right = space_after m.commands m.kerns m.glues (character_at m.classes left).program right
 
 -- a parameter, counted from 1: 0 where there is none
 abbrev pub param_of : Metric → ℕ → ℤ
-param_of m n = if n == 0 then pos 0 else slice_index_or m.params (n - 1) (pos 0)
+param_of m n = param_in m.params n

@@ -4,6 +4,7 @@ ghost use Rattle.std.specs.Prelude.{◌<◌, ◌^◌};
 
 use super::*;
 use jis_codes::Cell;
+use metric_words::begins_as_jfm;
 use std::alloc::Global;
 use std::test::Fail;
 use ts_geometry::{BadKind, Measures, MetricFault, Sp};
@@ -12,64 +13,70 @@ use ts_geometry::{BadKind, Measures, MetricFault, Sp};
 const JP10: [u32; 24] = [
     0x000B_0001,
     0x0018_0002,
-    0,
+    0x0000_0000,
     0x0002_0002,
     0x0002_0001,
-    0,
+    0x0000_0000,
     0x0000_0006,
-    0,
+    0x0000_0000,
     0x00A0_0000,
-    0,
+    0x0000_0000,
     0x0111_0000,
-    0,
+    0x0000_0000,
     0x0010_0000,
-    0,
+    0x0000_0000,
     0x000E_0000,
-    0,
+    0x0000_0000,
     0x0002_0000,
-    0,
-    0,
-    0,
-    0,
-    0,
+    0x0000_0000,
+    0x0000_0000,
+    0x0000_0000,
+    0x0000_0000,
+    0x0000_0000,
     0x0010_0000,
     0x0010_0000,
 ];
 
-// Opening brackets of class 1, closing ones and punctuation of class 2, both of half the width; a
-// depth below 0.
-const LISTED: [u32; 31] = [
+// Full width but for the opening bracket, of class 1, and the comma and the full stop, of class 2,
+// with glue before the one and after the other.
+const JA10: [u32; 37] = [
     0x000B_0005,
-    0x001F_0002,
+    0x0025_0002,
     0x0000_0002,
     0x0003_0002,
     0x0002_0001,
-    0,
-    0x0000_0006,
-    0x1234_5678,
+    0x0003_0000,
+    0x0003_0006,
+    0x0000_0000,
     0x00A0_0000,
-    0,
+    0x0000_0000,
     0x2122_0002,
     0x2123_0002,
     0x2156_0001,
     0x2157_0002,
-    0x0111_0000,
+    0x0111_0100,
     0x0211_0000,
-    0x0210_0000,
-    0,
+    0x0211_0101,
+    0x0000_0000,
     0x0010_0000,
     0x0008_0000,
-    0,
+    0x0000_0000,
     0x000E_0000,
-    0,
-    0xFFFE_0000,
-    0,
-    0xFFFF_0000,
-    0,
-    0,
-    0,
+    0x0000_0000,
+    0x0002_0000,
+    0x0000_0000,
+    0x8001_0000,
+    0x0000_0000,
+    0x8001_0000,
+    0x0008_0000,
+    0x0000_0000,
+    0x0008_0000,
+    0x0000_0000,
+    0x0000_0000,
+    0x0000_0000,
+    0x0000_0000,
     0x0010_0000,
-    0x0018_0000,
+    0x0010_0000,
 ];
 
 fn bytes_of(alloc: Global, words: &[u32]) -> Result<Vec<u8>, Fail> {
@@ -80,16 +87,33 @@ fn bytes_of(alloc: Global, words: &[u32]) -> Result<Vec<u8>, Fail> {
     Ok(bytes)
 }
 
-// The bytes of `JP10` with one other byte at each of these places.
-fn jp10_with(alloc: Global, changes: &[(usize, u8)]) -> Result<Vec<u8>, Fail> {
-    let mut bytes = bytes_of(alloc, &JP10)?;
-    for change in changes {
-        *bytes.get_mut(change.0).ok_or("short")? = change.1;
+// The first bytes of a metric, so many of them, with another byte at that place.
+fn changed(
+    alloc: Global,
+    words: &[u32],
+    len: usize,
+    change: Option<(usize, u8)>,
+) -> Result<Vec<u8>, Fail> {
+    let mut bytes = bytes_of(alloc, words)?;
+    if let Some((at, byte)) = change {
+        *bytes.get_mut(at).ok_or("short")? = byte;
     }
+    bytes.truncate(len);
     Ok(bytes)
 }
 
+// What is read of bytes that begin as a JFM does.
+fn read_jfm(alloc: Global, bytes: &[u8]) -> Result<Japanese, Fail> {
+    if bytes.len() >= 2 && !begins_as_jfm(bytes) {
+        return Err(Fail::from("no JFM"));
+    }
+    Ok(read(alloc, bytes)?)
+}
+
 fn fault_of(alloc: Global, bytes: &[u8]) -> Option<MetricFault> {
+    if bytes.len() >= 2 && !begins_as_jfm(bytes) {
+        return None;
+    }
     read(alloc, bytes).err()
 }
 
@@ -116,7 +140,7 @@ fn a_metric_of_one_class_gives_full_widths(rt: HostRuntime) -> Result<(), Fail> 
     let mut bytes = bytes_of(rt.alloc(), &JP10)?;
     // what stands after the metric is ignored
     bytes.extend_from_slice(&[1, 2, 3])?;
-    let font = read(rt.alloc(), &bytes)?;
+    let font = read_jfm(rt.alloc(), &bytes)?;
     assert!(rt; !font.is_tate());
     assert_eq!(rt; font.check_sum(), 0);
     assert_eq!(rt; font.design(), 655360);
@@ -124,21 +148,6 @@ fn a_metric_of_one_class_gives_full_widths(rt: HostRuntime) -> Result<(), Fail> 
         measures_at(&font, cell(16, 1)?, 655360),
         measures(655360, 573440, 81920)
     );
-    Ok(())
-}
-
-#[test]
-fn cells_that_are_not_listed_have_class_0(rt: HostRuntime) -> Result<(), Fail> {
-    let font = read(rt.alloc(), &bytes_of(rt.alloc(), &JP10)?)?;
-    for row in 1..95 {
-        assert_eq!(rt; font.class(cell(row, row)?), 0);
-    }
-    Ok(())
-}
-
-#[test]
-fn a_parameter_that_is_absent_is_0(rt: HostRuntime) -> Result<(), Fail> {
-    let font = read(rt.alloc(), &bytes_of(rt.alloc(), &JP10)?)?;
     for (n, fix) in [(0, 0), (1, 0), (5, 1048576), (6, 1048576), (7, 0)] {
         assert_eq!(rt; font.param(n), fix);
     }
@@ -146,84 +155,104 @@ fn a_parameter_that_is_absent_is_0(rt: HostRuntime) -> Result<(), Fail> {
 }
 
 #[test]
-fn listed_codes_have_their_classes(rt: HostRuntime) -> Result<(), Fail> {
-    let font = read(rt.alloc(), &bytes_of(rt.alloc(), &LISTED)?)?;
-    let classes = [
-        (1, 1, 0),
-        (1, 2, 2),
-        (1, 3, 2),
-        (1, 54, 1),
-        (1, 55, 2),
-        (1, 56, 0),
-        (2, 2, 0),
-        (33, 34, 0),
-    ];
-    for (row, place, class) in classes {
-        assert_eq!(rt; font.class(cell(row, place)?), class);
-    }
-    Ok(())
-}
-
-#[test]
-fn measures_are_rounded_down(rt: HostRuntime) -> Result<(), Fail> {
-    let font = read(rt.alloc(), &bytes_of(rt.alloc(), &LISTED)?)?;
-    assert_eq!(rt; font.check_sum(), 0x1234_5678);
-    assert_eq!(rt; font.param(1), -65536);
-    assert_eq!(rt;
-        measures_at(&font, cell(1, 54)?, 655360),
-        measures(327680, 573440, -81920)
-    );
-    assert_eq!(rt; measures_at(&font, cell(1, 54)?, 1), measures(0, 0, -1));
-    Ok(())
-}
-
-#[test]
-fn a_cut_metric_is_truncated_at_its_length(rt: HostRuntime) -> Result<(), Fail> {
-    let whole = bytes_of(rt.alloc(), &JP10)?;
-    for len in [0usize, 1, 27, 95] {
-        let fault = MetricFault::Bad(BadKind::Truncated, len as u32);
+fn brackets_and_commas_are_of_half_the_width(rt: HostRuntime) -> Result<(), Fail> {
+    let font = read_jfm(rt.alloc(), &bytes_of(rt.alloc(), &JA10)?)?;
+    for (row, place, class, width) in [
+        (1, 2, 2, 327680),
+        (1, 3, 2, 327680),
+        (1, 54, 1, 327680),
+        (1, 55, 2, 327680),
+        (1, 1, 0, 655360),
+        (1, 56, 0, 655360),
+        (48, 1, 0, 655360),
+    ] {
+        let cell = cell(row, place)?;
+        assert_eq!(rt; font.class(cell), class);
         assert_eq!(rt;
-            fault_of(rt.alloc(), whole.get(..len).ok_or("short")?),
-            Some(fault)
+            measures_at(&font, cell, 655360),
+            measures(width, 573440, 81920)
         );
     }
     Ok(())
 }
 
 #[test]
+fn glue_stands_before_brackets_and_after_commas(rt: HostRuntime) -> Result<(), Fail> {
+    let font = read_jfm(rt.alloc(), &bytes_of(rt.alloc(), &JA10)?)?;
+    let half = Space::Glue(524288, 0, 524288);
+    for (left, right, space) in [
+        (2, 1, half),
+        (2, 0, half),
+        (0, 1, half),
+        (0, 2, Space::Nothing),
+        (1, 1, Space::Nothing),
+        (2, 2, Space::Nothing),
+        (3, 1, Space::Nothing),
+        (255, 0, Space::Nothing),
+    ] {
+        assert_eq!(rt; font.between(left, right), space);
+    }
+    Ok(())
+}
+
+#[test]
+fn a_kern_may_stand_between(rt: HostRuntime) -> Result<(), Fail> {
+    // of the six parameters one is taken away, and a kern is put before the glue
+    let mut words = JA10;
+    words[5] = 0x0003_0001;
+    words[6] = 0x0003_0005;
+    words[25] = 0x8001_8000;
+    words[28] = 0xFFFE_0000;
+    words[29] = 0x0008_0000;
+    words[30] = 0;
+    words[31] = 0x0008_0000;
+    let font = read_jfm(rt.alloc(), &bytes_of(rt.alloc(), &words)?)?;
+    assert_eq!(rt; font.between(0, 1), Space::Kern(-131072));
+    assert_eq!(rt; font.between(2, 1), Space::Glue(524288, 0, 524288));
+    Ok(())
+}
+
+#[test]
 fn the_first_bad_word_counts(rt: HostRuntime) -> Result<(), Fail> {
-    let faults = [
-        (1, 12, MetricFault::NotBuilt),
-        (5, 0x19, MetricFault::Bad(BadKind::Lengths, 0)),
-        (33, 0, MetricFault::Bad(BadKind::FixWord, 32)),
-        (39, 1, MetricFault::Bad(BadKind::CharType, 36)),
-        (40, 2, MetricFault::Bad(BadKind::Index, 40)),
-        (47, 1, MetricFault::Bad(BadKind::FixWord, 44)),
-        (48, 1, MetricFault::Bad(BadKind::FixWord, 48)),
-    ];
-    for (at, byte, fault) in faults {
-        let bytes = jp10_with(rt.alloc(), &[(at, byte)])?;
-        assert_eq!(rt; fault_of(rt.alloc(), &bytes), Some(fault));
+    let jp10 = JP10.as_slice();
+    let ja10 = JA10.as_slice();
+    for (words, len, change, kind, at) in [
+        (jp10, 0, None, BadKind::Truncated, 0),
+        (jp10, 1, None, BadKind::Truncated, 1),
+        (jp10, 27, None, BadKind::Truncated, 27),
+        (jp10, 95, None, BadKind::Truncated, 95),
+        (jp10, 96, Some((5, 0x19)), BadKind::Lengths, 0),
+        (jp10, 96, Some((33, 0)), BadKind::FixWord, 32),
+        (jp10, 96, Some((39, 1)), BadKind::CharType, 36),
+        (jp10, 96, Some((40, 2)), BadKind::Index, 40),
+        (jp10, 96, Some((47, 1)), BadKind::FixWord, 44),
+        (jp10, 96, Some((48, 1)), BadKind::FixWord, 48),
+        (ja10, 100, None, BadKind::Truncated, 100),
+        (ja10, 148, Some((45, 0x22)), BadKind::CharType, 44),
+        (ja10, 148, Some((102, 1)), BadKind::Program, 100),
+        (ja10, 148, Some((103, 1)), BadKind::Program, 100),
+        (ja10, 148, Some((108, 0)), BadKind::Program, 108),
+    ] {
+        let bytes = changed(rt.alloc(), words, len, change)?;
+        assert_eq!(rt;
+            fault_of(rt.alloc(), &bytes),
+            Some(MetricFault::Bad(kind, at))
+        );
     }
     Ok(())
 }
 
 #[test]
 fn a_metric_may_be_for_tate(rt: HostRuntime) -> Result<(), Fail> {
-    let bytes = jp10_with(rt.alloc(), &[(1, 9), (57, 8), (65, 8)])?;
-    let font = read(rt.alloc(), &bytes)?;
+    let mut words = JP10;
+    words[0] = 0x0009_0001;
+    words[14] = 0x0008_0000;
+    words[16] = 0x0008_0000;
+    let font = read_jfm(rt.alloc(), &bytes_of(rt.alloc(), &words)?)?;
     assert!(rt; font.is_tate());
     assert_eq!(rt;
         measures_at(&font, cell(16, 1)?, 655360),
         measures(655360, 327680, 327680)
     );
-    Ok(())
-}
-
-#[test]
-fn glue_and_kerns_are_not_built(rt: HostRuntime) -> Result<(), Fail> {
-    let mut bytes = jp10_with(rt.alloc(), &[(5, 0x19), (21, 1)])?;
-    bytes.extend_from_slice(&[0; 4])?;
-    assert_eq!(rt; fault_of(rt.alloc(), &bytes), Some(MetricFault::NotBuilt));
     Ok(())
 }

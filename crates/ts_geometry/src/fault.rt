@@ -26,8 +26,6 @@ pub enum MetricFault {
     /// The first fault of the file, and its place: the number of bytes before the bad word, or the
     /// length of a file that is too short.
     Bad(BadKind, u32),
-    /// The file is of a form that isn't built yet.
-    NotBuilt,
     /// Memory ran out.
     NoMemory,
 }

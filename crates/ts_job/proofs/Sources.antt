@@ -1,5 +1,5 @@
 -- Sources and their fonts, as they are read.
-use Rattle.std.proofs.Common.{◌≡◌, ◌≢◌, ℕ, ◌-◌, ◌/◌, ◌%◌, List, take, Bool, true, false, Option, Some, None, Result, Ok, Err, refl, ap, arith, cond}
+use Rattle.std.proofs.Common.{◌≡◌, ◌≢◌, ℕ, ◌-◌, ◌/◌, ◌%◌, ◌≤◌, List, length, take, nat_lt, not, ◌&&◌, Bool, true, false, Option, Some, None, Result, Ok, Err, refl, ap, arith, cond}
 use Rattle.std.specs.Prelude.{nat_le}
 use Rattle.std.specs.Option.{ok_or}
 use Rattle.std.proofs.lemmas.Bool.Decides.{nat_tests}
@@ -7,7 +7,7 @@ use Rattle.ts_geometry.specs.declared.fault.MetricFault.{MetricFault}
 use Rattle.jis_codes.specs.Kuten.{Kuten, IsKuten}
 use Rattle.jis_codes.specs.Spellings.{jis}
 use Rattle.jis_codes.specs.Numbers.{number_of}
-use Rattle.ts_base.specs.Agreement.{◌>>=◌, Counts, Uncounted}
+use Rattle.ts_base.specs.Agreement.{◌>>=◌, with_fault, Counts, Uncounted}
 use Rattle.ts_base.proofs.Composing.{leaves_count}
 use Rattle.ts_outside.specs.States.{Held}
 use Rattle.ts_outside.specs.Reading.{bytes_of}
@@ -16,27 +16,51 @@ use Rattle.ts_outside.specs.Names.{is_file_name}
 use Rattle.ts_outside.specs.Naming.{named}
 use Rattle.ts_outside.specs.Endings.{with_ending, metric_ending}
 use Rattle.jfm_load.specs.Metrics.{Metric, metric_of}
-use Rattle.jfm_load.specs.Parts.{is_jis}
+use Rattle.metric_words.specs.Words.{halfword}
+use Rattle.jfm_load.specs.CharTypes.{is_jis}
 use Rattle.ts_job.specs.declared.fault.FaultKind.TheVariants.{FileMissing, FormNotBuilt}
 use Rattle.ts_job.specs.declared.stop.Stop.{Stop}
 use Rattle.ts_job.specs.declared.stop.Stop.TheVariants as stops
 use Rattle.ts_job.specs.Words.{Request}
 use Rattle.ts_job.specs.Form.{Form}
 use Rattle.ts_job.specs.Loading.{first_of}
-use Rattle.ts_job.specs.Meaning.{source_form, font_metric, built, is_built, typeset, page_of, font_def, width_of, ten_points, stop_cause}
+use Rattle.ts_job.specs.Meaning.{font_fault, or_not_built, may_be_jfm, has_programs, source_form, font_metric, built, is_built, typeset, page_of, font_def, width_of, ten_points, stop_cause}
 use Rattle.ts_job.specs.Promise.{held_widths, width_by, width_in}
 use Rattle.ts_job.specs.Setting.{GivesWidths}
 
 -- the metric of the font, by the bytes that were read of it
-metric_read : (file : Option (List ℕ)) (bytes : List ℕ) → first_of 262140 file ≡ Ok bytes → ((whole : List ℕ) → take 262140 whole ≡ bytes → metric_of whole ≡ metric_of bytes) → (ok_or file (stops.Fault FileMissing 1) >>= λ b. built (metric_of b)) ≡ built (metric_of bytes)
+metric_read : (file : Option (List ℕ)) (bytes : List ℕ) → first_of 262140 file ≡ Ok bytes → ((whole : List ℕ) → take 262140 whole ≡ bytes → built whole ≡ built bytes) → (ok_or file (stops.Fault FileMissing 1) >>= λ b. built b) ≡ built bytes
 metric_read None bytes read holds = absurd cc
 metric_read (Some file) bytes read holds =
     let first : take 262140 file ≡ bytes = cc in
-    ap built (holds file first)
+    holds file first
 
-pub font_metric-read : (held : List Held) (form : Form) (bytes : List ℕ) → first_of 262140 (bytes_of held (with_ending metric_ending form.name)) ≡ Ok bytes → ((whole : List ℕ) → take 262140 whole ≡ bytes → metric_of whole ≡ metric_of bytes) → font_metric held form ≡ built (metric_of bytes)
+pub font_metric-read : (held : List Held) (form : Form) (bytes : List ℕ) → first_of 262140 (bytes_of held (with_ending metric_ending form.name)) ≡ Ok bytes → ((whole : List ℕ) → take 262140 whole ≡ bytes → built whole ≡ built bytes) → font_metric held form ≡ built bytes
 unfolding font_metric
 font_metric-read held form bytes read holds = metric_read (bytes_of held (with_ending metric_ending form.name)) bytes read holds
+
+-- what two files with the same metric and the same first halfwords give
+pub built_same : (a b : List ℕ) → 28 ≤ length a → 28 ≤ length b → ((i : ℕ) → i ≤ 12 → halfword a i ≡ halfword b i) → metric_of a ≡ metric_of b → built a ≡ built b
+built_same a b long_a long_b same metric =
+    let some_a : nat_lt (length a) 2 ≡ false = grind (arith, nat_tests) in
+    let some_b : nat_lt (length b) 2 ≡ false = grind (arith, nat_tests) in
+    let two_a : nat_le 2 (length a) ≡ true = grind (arith, nat_tests) in
+    let two_b : nat_le 2 (length b) ≡ true = grind (arith, nat_tests) in
+    let all_a : nat_le 28 (length a) ≡ true = grind (arith, nat_tests) in
+    let all_b : nat_le 28 (length b) ≡ true = grind (arith, nat_tests) in
+    rw (
+      some_a,
+      some_b,
+      two_a,
+      two_b,
+      all_a,
+      all_b,
+      metric,
+      same 0 (omega arith),
+      same 10 (omega arith),
+      same 11 (omega arith),
+      same 12 (omega arith),
+    ) refl
 
 pub named_is : (text name : List ℕ) → named text ≡ Ok name → text ≡ name
 named_is text name is = by_test (is_file_name text) is
@@ -69,13 +93,19 @@ width_if_built m metric k true there is =
     rw (same, code) refl
 width_if_built m metric k false there is = absurd cc
 
-width_read : (r : Result Metric MetricFault) (metric : Metric) (k : Kuten) → IsKuten k → built r ≡ Ok metric → width_in ten_points (number_of jis k) r ≡ Some (record { 0 = width_of metric k })
-width_read (Err fault) metric k there is = absurd cc
-width_read (Ok m) metric k there is = width_if_built m metric k (is_built m) there is
+width_read : (r : Result Metric MetricFault) (programs : Bool) (metric : Metric) (k : Kuten) → IsKuten k → (with_fault font_fault r >>= or_not_built programs) ≡ Ok metric → width_in ten_points (number_of jis k) r ≡ Some (record { 0 = width_of metric k })
+width_read (Err fault) programs metric k there is = absurd cc
+width_read (Ok m) programs metric k there is = width_if_built m metric k (not programs && is_built m) there is
 
-width_held : (file : Option (List ℕ)) (metric : Metric) (k : Kuten) → IsKuten k → (ok_or file (stops.Fault FileMissing 1) >>= λ b. built (metric_of b)) ≡ Ok metric → width_by ten_points (number_of jis k) file ≡ Some (record { 0 = width_of metric k })
+width_tested : (test : Bool) (r : Result Metric MetricFault) (programs : Bool) (metric : Metric) (k : Kuten) → IsKuten k
+    → cond test (with_fault font_fault r >>= or_not_built programs) (Err (stops.Fault FormNotBuilt 0)) ≡ Ok metric
+    → cond test (width_in ten_points (number_of jis k) r) None ≡ Some (record { 0 = width_of metric k })
+width_tested true r programs metric k there is = width_read r programs metric k there is
+width_tested false r programs metric k there is = absurd cc
+
+width_held : (file : Option (List ℕ)) (metric : Metric) (k : Kuten) → IsKuten k → (ok_or file (stops.Fault FileMissing 1) >>= λ b. built b) ≡ Ok metric → width_by ten_points (number_of jis k) file ≡ Some (record { 0 = width_of metric k })
 width_held None metric k there is = absurd cc
-width_held (Some file) metric k there is = width_read (metric_of file) metric k there is
+width_held (Some file) metric k there is = width_tested (may_be_jfm file) (metric_of file) (has_programs file) metric k there is
 
 -- The metric that is found gives the widths with which the DVI file is read.
 pub widths_held : (held : List Held) (form : Form) (metric : Metric) → font_metric held form ≡ Ok metric → GivesWidths (held_widths held) (font_def form metric) metric

@@ -1,9 +1,9 @@
 -- What a source means: the page that it ships, or its first fault.
-use Rattle.std.specs.Prelude.{ℕ, List, [], ◌∷◌, ℤ, pos, ◌+ℤ◌, Bool, Result, Ok, Err, Option, Some, None, ◌==◌, ◌&&◌, fold, map, not, if◌then◌else◌}
+use Rattle.std.specs.Prelude.{ℕ, List, [], ◌∷◌, length, ℤ, pos, ◌+ℤ◌, Bool, Result, Ok, Err, Option, Some, None, ◌==◌, ◌&&◌, ◌||◌, nat_lt, nat_le, fold, map, not, if◌then◌else◌}
 use Rattle.std.specs.Int.{int_max}
 use Rattle.std.specs.Option.{ok_or}
 use Rattle.ts_geometry.specs.declared.fault.MetricFault.{MetricFault}
-use Rattle.ts_geometry.specs.declared.fault.MetricFault.TheVariants.{Bad, NotBuilt, NoMemory as MetricNoMemory}
+use Rattle.ts_geometry.specs.declared.fault.MetricFault.TheVariants.{Bad, NoMemory as MetricNoMemory}
 use Rattle.jis_codes.specs.Kuten.{Kuten}
 use Rattle.jis_codes.specs.Spellings.{jis}
 use Rattle.jis_codes.specs.Numbers.{number_of}
@@ -17,6 +17,8 @@ use Rattle.input_codings.specs.declared.fault.LineFault.TheVariants as lines
 use Rattle.input_codings.specs.declared.fault.OpenFault.{OpenFault}
 use Rattle.input_codings.specs.declared.fault.OpenFault.TheVariants as opens
 use Rattle.input_codings.specs.Lines.{opened, next_line}
+use Rattle.metric_words.specs.Words.{halfword}
+use Rattle.metric_words.specs.Lengths.{begins_as_jfm}
 use Rattle.jfm_load.specs.Metrics.{Metric, metric_of, class_of, measures_of}
 use Rattle.dvi_code.specs.declared.font.FontDef.{FontDef}
 use Rattle.dvi_code.specs.declared.page.DviPage.{DviPage}
@@ -57,10 +59,9 @@ first_line files request =
 unfoldable pub source_form : List Held → Request → Result Form Stop
 source_form files request = first_line files request >>= λ line. ok_or (form_on line) (stops.Fault FormNotBuilt 0)
 
--- a metric's fault is the fault of its font, but for what isn't built yet
+-- a metric's fault is the fault of its font
 abbrev pub font_fault : MetricFault → Stop
 font_fault (Bad kind at) = stops.Fault (FontBad kind at) 1
-font_fault NotBuilt = stops.Fault FormNotBuilt 0
 font_fault MetricNoMemory = stops.NoMemory
 
 -- 10 pt in scaled points
@@ -71,16 +72,26 @@ ten_points = 655360
 abbrev pub is_built : Metric → Bool
 is_built metric = not metric.is_tate && metric.design == ten_points
 
-abbrev pub or_not_built : Metric → Result Metric Stop
-or_not_built metric = if is_built metric then Ok metric else Err (stops.Fault FormNotBuilt 0)
+-- Is a file a JFM, by its first halfword, if it has one?
+abbrev pub may_be_jfm : List ℕ → Bool
+may_be_jfm bytes = nat_lt (length bytes) 2 || begins_as_jfm bytes
 
--- the metric that is read, if it is one that is built
-abbrev pub built : Result Metric MetricFault → Result Metric Stop
-built metric = with_fault font_fault metric >>= or_not_built
+-- Has a JFM programs, kerns or glue, by its lengths nl, nk and ng?
+abbrev pub has_programs : List ℕ → Bool
+has_programs bytes = nat_le 28 (length bytes) && not (halfword bytes 10 == 0 && halfword bytes 11 == 0 && halfword bytes 12 == 0)
+
+abbrev pub or_not_built : Bool → Metric → Result Metric Stop
+or_not_built programs metric = if not programs && is_built metric then Ok metric else Err (stops.Fault FormNotBuilt 0)
+
+-- the metric of a file, if it is one that is built
+abbrev pub built : List ℕ → Result Metric Stop
+built bytes =
+    if may_be_jfm bytes then with_fault font_fault (metric_of bytes) >>= or_not_built (has_programs bytes)
+    else Err (stops.Fault FormNotBuilt 0)
 
 -- the metric of the form's font
 unfoldable pub font_metric : List Held → Form → Result Metric Stop
-font_metric files form = ok_or (bytes_of files (with_ending metric_ending form.name)) (stops.Fault FileMissing 1) >>= λ bytes. built (metric_of bytes)
+font_metric files form = ok_or (bytes_of files (with_ending metric_ending form.name)) (stops.Fault FileMissing 1) >>= λ bytes. built bytes
 
 -- the measures of a character
 abbrev pub width_of : Metric → Kuten → ℤ

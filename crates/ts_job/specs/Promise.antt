@@ -9,8 +9,8 @@ use Rattle.ts_outside.specs.States.{Held}
 use Rattle.ts_outside.specs.Reading.{bytes_of}
 use Rattle.ts_outside.specs.Gaining.{Gained, GainedPrefix}
 use Rattle.ts_outside.specs.Endings.{with_ending, metric_ending}
-use Rattle.jfm_load.specs.Metrics.{Metric, metric_of, class_in, measures_of}
-use Rattle.jfm_load.specs.Parts.{is_jis}
+use Rattle.jfm_load.specs.Metrics.{Metric, metric_of, measures_of}
+use Rattle.jfm_load.specs.CharTypes.{class_in, is_jis}
 use Rattle.dvi_code.specs.declared.page.DviPage.{DviPage}
 use Rattle.dvi_code.specs.Pages.{Widths, file_pages}
 use Rattle.ts_job.specs.declared.stop.Stop.{Stop}
@@ -20,7 +20,7 @@ use Rattle.ts_job.specs.declared.ending.Ending.TheVariants as endings
 use Rattle.ts_job.specs.declared.outcome.Outcome.{Outcome}
 use Rattle.ts_job.specs.declared.outcome.Outcome.TheVariants as outcomes
 use Rattle.ts_job.specs.Words.{Request, asked}
-use Rattle.ts_job.specs.Meaning.{typeset, stop_cause}
+use Rattle.ts_job.specs.Meaning.{typeset, stop_cause, may_be_jfm}
 use Rattle.ts_job.specs.Texts.{report_of}
 
 -- ---- the widths that DVI is read with
@@ -31,7 +31,7 @@ width_in size code (Ok metric) = if is_jis code then Some (measures_of metric (c
 
 abbrev pub width_by : ℕ → ℕ → Option (List ℕ) → Option Sp
 width_by size code None = None
-width_by size code (Some bytes) = width_in size code (metric_of bytes)
+width_by size code (Some bytes) = if may_be_jfm bytes then width_in size code (metric_of bytes) else None
 
 -- the width of a character of a font, by the metric of its name among the files that are held
 abbrev pub held_widths : List Held → Widths

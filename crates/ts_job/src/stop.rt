@@ -61,7 +61,6 @@ impl From<MetricFault> for Stop {
     fn from(fault: MetricFault) -> Stop {
         match fault {
             MetricFault::Bad(kind, at) => Stop::Fault(FaultKind::FontBad(kind, at), 1),
-            MetricFault::NotBuilt => Stop::Fault(FaultKind::FormNotBuilt, 0),
             MetricFault::NoMemory => Stop::NoMemory,
         }
     }

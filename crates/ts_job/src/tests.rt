@@ -170,7 +170,10 @@ fn sources(rt: HostRuntime) -> Result<(), Fail> {
 fn metrics_and_failures(rt: HostRuntime) -> Result<(), Fail> {
     let alloc = rt.alloc();
     let tate: &[(usize, u8)] = &[(1, 9), (57, 8), (65, 8)];
-    let table: [(&[(usize, u8)], usize, &[u64], &[u64], u8, &str, &[u8]); 5] = [
+    let no_jfm: &[(usize, u8)] = &[(1, 12)];
+    // of the six parameters the first is a kern
+    let kern: &[(usize, u8)] = &[(23, 1), (27, 5)];
+    let table: [(&[(usize, u8)], usize, &[u64], &[u64], u8, &str, &[u8]); 8] = [
         (&[], 96, &[], &[], 0, "pages 1\n", &WORKED),
         (
             &[],
@@ -182,6 +185,17 @@ fn metrics_and_failures(rt: HostRuntime) -> Result<(), Fail> {
             &[],
         ),
         (tate, 96, &[], &[], 1, "row.tex:0: FormNotBuilt\n", &[]),
+        (no_jfm, 96, &[], &[], 1, "row.tex:0: FormNotBuilt\n", &[]),
+        (
+            no_jfm,
+            1,
+            &[],
+            &[],
+            1,
+            "row.tex:1: FontBad Truncated 1\n",
+            &[],
+        ),
+        (kern, 96, &[], &[], 1, "row.tex:0: FormNotBuilt\n", &[]),
         (&[], 96, &[1], &[], 3, "", &[]),
         (&[], 96, &[], &[1], 4, "", &[247]),
     ];

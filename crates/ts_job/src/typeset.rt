@@ -3,12 +3,10 @@
 ghost use Rattle.std.specs.Prelude.{◌≡◌, ◌≤◌, ℕ, List, length, take, Some, IfOk};
 ghost use Rattle.ts_base.specs.Agreement.{Agrees, Counts, Uncounted};
 ghost use Rattle.ts_outside.specs.States.{Held, KeepsAll};
-ghost use Rattle.jfm_load.specs.Metrics.{metric_of};
-ghost use Rattle.jfm_load.specs.Words.{halfword};
 ghost use Rattle.std.specs.Option.{ok_or};
 ghost use Rattle.ts_job.specs.declared.stop.Stop.TheVariants as stops;
 ghost use Rattle.ts_job.specs.FormSeen.{seen};
-ghost use Rattle.ts_job.specs.Meaning.{source_form as the_source_form, font_metric as the_font_metric, built, form_on as the_form_on, first_line as the_first_line, typeset as the_typeset, stop_cause};
+ghost use Rattle.ts_job.specs.Meaning.{source_form as the_source_form, font_metric as the_font_metric, built, may_be_jfm as might_be_jfm, has_programs as the_file_has_programs, form_on as the_form_on, first_line as the_first_line, typeset as the_typeset, stop_cause};
 ghost use Rattle.ts_job.specs.Asked.{request};
 ghost use Rattle.ts_job.specs.Promise.{Sets};
 ghost use Rattle.ts_job.specs.Setting.{IsSound};
@@ -19,9 +17,9 @@ use crate::load::load;
 use crate::setting::{TEN_POINTS, set};
 use crate::stop::Stop;
 use crate::words::Request;
-use byteorder::{BigEndian, ByteOrder};
 use input_codings::{Line, Lines};
 use jfm_load::{Japanese, a_metric_is_in_its_first_words, read};
+use metric_words::{begins_as_jfm, halfword_at};
 use std::alloc::Global;
 use ts_outside::{FileName, Files};
 
@@ -71,32 +69,44 @@ fn source_form<F: Files>(alloc: Global, files: &mut F, asked: &Request) -> Resul
     form_on(alloc, line)
 }
 
-// The number of words that a metric file has by its own count, of at least six bytes.
-#[tactic(auto, unfolding(jfm_load::specs::Words::halfword))]
-fn word_count(bytes: &[u8]) -> u16
-    requires { 6 ≤ length bytes.now }
-    ensures { result ≡ halfword bytes.now 2 }
+// Is a metric file a JFM, by its first halfword, if it has one?
+fn may_be_jfm(bytes: &[u8]) -> bool
+    ensures { result ≡ might_be_jfm bytes.now }
 {
-    BigEndian::read_u16(&bytes[4..])
+    bytes.len() < 2 || begins_as_jfm(bytes)
+}
+
+// Has a JFM programs, kerns or glue, by its lengths?
+fn has_programs(bytes: &[u8]) -> bool
+    ensures { result ≡ the_file_has_programs bytes.now }
+{
+    28 <= bytes.len()
+        && !(halfword_at(bytes, 10) == 0
+            && halfword_at(bytes, 11) == 0
+            && halfword_at(bytes, 12) == 0)
 }
 
 // Nothing, beside the fact that so many bytes of a file hold the whole of its metric.
 fn hold_metric(bytes: &[u8])
-    ensures { (file : List ℕ) → take 262140 file ≡ bytes.now → metric_of file ≡ metric_of bytes.now }
+    ensures { (file : List ℕ) → take 262140 file ≡ bytes.now → built file ≡ built bytes.now }
 {
     a_metric_is_in_its_first_words();
     if 28 <= bytes.len() {
-        let _count = word_count(bytes);
+        let _count = halfword_at(bytes, 2);
     }
 }
 
-// The metric that bytes spell, if it is for yoko lines of the one size that is built.
+// The metric that bytes spell, if it is for yoko lines of the one size that is built, without
+// programs.
 fn built_metric(alloc: Global, bytes: &[u8]) -> Result<Japanese, Stop>
-    ensures exact { Agrees (λ metric. metric) stop_cause result (built (metric_of bytes.now)) }
+    ensures exact { Agrees (λ metric. metric) stop_cause result (built bytes.now) }
     ensures quiet { Uncounted stop_cause result }
 {
+    if !may_be_jfm(bytes) {
+        return Err(Stop::Fault(FaultKind::FormNotBuilt, 0));
+    }
     let metric = read(alloc, bytes)?;
-    if metric.is_tate() || metric.design() != TEN_POINTS {
+    if has_programs(bytes) || metric.is_tate() || metric.design() != TEN_POINTS {
         return Err(Stop::Fault(FaultKind::FormNotBuilt, 0));
     }
     Ok(metric)

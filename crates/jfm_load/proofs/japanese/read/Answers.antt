@@ -1,8 +1,7 @@
-use Rattle.jfm_load.proofs.SoundParts.{sound_tables}
+use Rattle.jfm_load.proofs.Chain.{metric-parts}
 use Rattle.jfm_load.proofs.japanese.read.Goals as goal
 
-pub invariant_of-result : goal.invariant_of-result
-invariant_of-result c =
-    sound_tables c.args.bytes.now c.in_ok-lengths.lengths _ _ _ _ _ _ _ c.width_start.result c.height_start.result c.depth_start.result _ _ _
-    c.in_ok-lengths.ensures.sound c.in_ok-design.ensures c.in_ok-char_types.ensures c.in_ok-char_infos.ensures
-    c.from.ensures c.in_ok-widths.ensures c.from-2.ensures c.in_ok-heights.ensures c.from-3.ensures c.in_ok-depths.ensures
+pub returns : goal.returns
+returns c =
+    let l = c.in_ok-lengths.lengths in
+    rw (metric-parts c.args.bytes.now l c.in_ok-lengths.ensures.exact c.in_ok-lengths.ensures.sound.header) c.read_parts.ensures

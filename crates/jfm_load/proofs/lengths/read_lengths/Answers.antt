@@ -1,7 +1,6 @@
-use Rattle.std.proofs.Common.{length, arith, rules}
-use Rattle.jfm_load.proofs.SoundParts.{sound_lengths}
+use Rattle.jfm_load.proofs.SoundTypes.{if_japanese}
 use Rattle.jfm_load.proofs.lengths.read_lengths.Goals as goal
 
-pub returns-clause-sound : goal.returns-clause-sound
-returns-clause-sound c =
-    sound_lengths c.at_front-lengths.result (length c.args.bytes.now) (search rules) (omega arith) (omega arith)
+pub returns-clause-japanese : goal.returns-clause-japanese
+returns-clause-japanese c =
+    if_japanese c.args.bytes.now c.at-lengths.result c.within.result (rw c.is_odd-odd.ensures at c.within.ensures.exact)

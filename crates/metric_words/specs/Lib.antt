@@ -1,0 +1,9 @@
+pub mod Words
+pub mod Checking
+pub mod Lengths
+pub mod FixWords
+pub mod Characters
+pub mod Programs
+pub mod Sound
+pub mod Left
+pub mod Parted

@@ -1,0 +1,4 @@
+pub mod Chain
+pub mod FirstFault
+pub mod Prefix
+pub mod Starts
