@@ -5,3 +5,5 @@ pub mod Drawing
 pub mod Saying
 pub mod Sound
 pub mod Numbers
+pub mod Values
+pub mod Counts

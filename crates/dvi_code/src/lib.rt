@@ -1,17 +1,22 @@
 //! What a DVI file says: its pages of marks.
 #![tactic(auto)]
 
+mod command;
 mod fault;
+mod field;
 mod font;
 mod mark;
 mod number;
 mod page;
+mod reading;
 
+pub use command::{Command, Part};
 pub use fault::{DviBad, DviKind};
 pub use font::{FontDef, Widths};
 pub use mark::{Mark, Marks, What};
 pub use number::{put_short, put_signed, put_unsigned};
 pub use page::{DviPage, DviPages};
+pub use reading::next_command;
 
 #[cfg(test)]
 mod tests;
