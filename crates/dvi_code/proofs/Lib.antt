@@ -7,3 +7,6 @@ pub mod Sound
 pub mod Numbers
 pub mod Values
 pub mod Counts
+pub mod FontPlacing
+pub mod Outlines
+pub mod Walking

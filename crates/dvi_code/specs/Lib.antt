@@ -5,3 +5,6 @@ pub mod Places
 pub mod Structure
 pub mod Pages
 pub mod Reading
+pub mod Answers
+pub mod Outline
+pub mod FontPlaces

@@ -168,6 +168,10 @@ unfoldable pub filled : {A : Type 0} → A → ℕ → ℕ → List ℕ → Resu
 filled s at count [] = if nat_le 4 count && nat_eq (at % 4) 0 then Ok s else Err (fault_at at kinds.Postamble)
 filled s at count (b ∷ bs) = if nat_eq b 223 then filled s (at + 1) (count + 1) bs else Err (fault_at at kinds.Postamble)
 
+-- the fill from a place on
+abbrev pub fill_checked : ℕ → List ℕ → Result (Unit {0}) DviBad
+fill_checked at bytes = filled {A = Unit {0}} tt at 0 bytes
+
 abbrev pub placed_at : {A : Type 0} → ℕ → Result A DviKind → Result A DviBad
 placed_at at (Ok s) = Ok s
 placed_at at (Err kind) = Err (fault_at at kind)

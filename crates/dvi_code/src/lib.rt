@@ -5,18 +5,23 @@ mod command;
 mod fault;
 mod field;
 mod font;
+mod definitions;
 mod mark;
 mod number;
 mod page;
 mod reading;
+mod refusal;
+mod standing;
+mod structure;
 
 pub use command::{Command, Part};
-pub use fault::{DviBad, DviKind};
+pub use fault::{DviBad, DviFault, DviKind};
 pub use font::{FontDef, Widths};
 pub use mark::{Mark, Marks, What};
 pub use number::{put_short, put_signed, put_unsigned};
 pub use page::{DviPage, DviPages};
 pub use reading::next_command;
+pub use structure::fonts;
 
 #[cfg(test)]
 mod tests;

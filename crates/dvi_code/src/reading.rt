@@ -1,12 +1,15 @@
 //! The command at a place.
 
 ghost use Rattle.std.specs.Prelude.{◌≡◌, ◌≤◌, ◌<◌, length, drop, IfOk};
+ghost use Rattle.ts_outside.specs.Agreement.{Agrees};
+ghost use Rattle.dvi_code.specs.Answers.{dvi_cause, faulted};
+ghost use Rattle.dvi_code.specs.Structure.{placed_at};
 ghost use Rattle.dvi_code.specs.Fields.{Gives, left_at};
 ghost use Rattle.dvi_code.specs.Commands.{meant, command, command_after, mark_after, group_after, right_after, down_after, font_def_after, font_after, pre_after, post_after, file_after};
 ghost use Rattle.dvi_code.specs.Next.{IsCommandAt, HasPartsIn};
 
 use crate::command::Command;
-use crate::fault::{DviBad, DviKind};
+use crate::fault::{DviBad, DviFault, DviKind};
 use crate::field::{byte_at, counts_at, font_number_at, half_at, number_at, signed_at, text_at};
 
 #[tactic(auto, unfolding(crate::specs::Commands::mark_after))]
@@ -293,5 +296,19 @@ pub fn next_command(bytes: &[u8], at: usize) -> Result<(Command, usize), DviBad>
     match command_at(bytes, at) {
         Ok((command, after)) => Ok((command, after)),
         Err(kind) => Err(DviBad { at, kind }),
+    }
+}
+
+/// The same, with the fault as a reader answers it.
+pub(crate) fn command_from(bytes: &[u8], at: usize) -> Result<(Command, usize), DviFault>
+    requires { at ≤ length bytes.now }
+    ensures exact { Agrees (left_at bytes.now (meant bytes.now)) dvi_cause result (faulted (placed_at at (command (drop at bytes.now)))) }
+    ensures on { IfOk result (λ x. at < x.1) }
+    ensures within { IfOk result (λ x. x.1 ≤ length bytes.now) }
+    ensures parts { IfOk result (λ x. HasPartsIn (length bytes.now) x.0) }
+{
+    match command_at(bytes, at) {
+        Ok((command, after)) => Ok((command, after)),
+        Err(kind) => Err(DviFault::Bad(DviBad { at, kind })),
     }
 }
