@@ -10,3 +10,4 @@ pub mod Counts
 pub mod FontPlacing
 pub mod Outlines
 pub mod Walking
+pub mod Pens

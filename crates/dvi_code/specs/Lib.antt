@@ -8,3 +8,4 @@ pub mod Reading
 pub mod Answers
 pub mod Outline
 pub mod FontPlaces
+pub mod Straight

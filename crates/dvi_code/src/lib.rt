@@ -9,6 +9,7 @@ mod definitions;
 mod mark;
 mod number;
 mod page;
+mod pen;
 mod reading;
 mod refusal;
 mod standing;
