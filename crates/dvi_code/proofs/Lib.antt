@@ -11,3 +11,5 @@ pub mod FontPlacing
 pub mod Outlines
 pub mod Walking
 pub mod Pens
+pub mod Straight
+pub mod PageReads

@@ -100,7 +100,7 @@ outline_last bytes at after o cmd e lt le last = rw (placed_last bytes at after 
 
 -- ---- what a reader answers
 
-fault_is : {A : Type 0} (q : Result A DviBad) (b : DviBad) → faulted q ≡ Err (faults.Bad b) → q ≡ Err b
+pub fault_is : {A : Type 0} (q : Result A DviBad) (b : DviBad) → faulted q ≡ Err (faults.Bad b) → q ≡ Err b
 fault_is (Ok x) b e = absurd cc
 fault_is (Err d) b e = cc
 
@@ -127,7 +127,7 @@ placed_answer at (Err k) x y g e h = absurd cc
 abbrev Begun : List ℕ → ℕ → Outline → Type 0
 Begun bytes at o = outline_walk o (placed at 0 (drop at bytes)) ≡ outline_walk start_outline (placed 0 0 bytes)
 
-kind_is : {A : Type 0} (at : ℕ) (r : Result A DviKind) (b : DviBad) → placed_at at r ≡ Err b → (k : DviKind) × (r ≡ Err k) × (b ≡ fault_at at k)
+pub kind_is : {A : Type 0} (at : ℕ) (r : Result A DviKind) (b : DviBad) → placed_at at r ≡ Err b → (k : DviKind) × (r ≡ Err k) × (b ≡ fault_at at k)
 kind_is at (Ok x) b e = absurd cc
 kind_is at (Err k) b e = (k, refl, cc)
 
@@ -139,10 +139,10 @@ command_fault (faults.Bad b) bytes at o begun a =
     rw walk refl
 
 -- the command at a place, by what was answered
-abbrev Says : List ℕ → ℕ → ℕ → Command → Type 0
+abbrev pub Says : List ℕ → ℕ → ℕ → Command → Type 0
 Says bytes at after cmd = faulted (placed_at at (command (drop at bytes))) ≡ Ok (cmd, drop after bytes)
 
-said_is : {A : Type 0} (at : ℕ) (r : Result A DviKind) (x : A) → faulted (placed_at at r) ≡ Ok x → r ≡ Ok x
+pub said_is : {A : Type 0} (at : ℕ) (r : Result A DviKind) (x : A) → faulted (placed_at at r) ≡ Ok x → r ≡ Ok x
 said_is at (Ok y) x e = cc
 said_is at (Err k) x e = absurd cc
 

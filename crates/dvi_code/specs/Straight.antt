@@ -12,6 +12,7 @@ use Rattle.dvi_code.specs.declared.mark.Mark.{Mark}
 use Rattle.dvi_code.specs.declared.page.DviPage.{DviPage}
 use Rattle.dvi_code.specs.declared.pen.Spot as spots
 use Rattle.dvi_code.specs.declared.pen.Pen as pens
+use Rattle.dvi_code.specs.declared.pages.Reader as readers
 use Rattle.dvi_code.specs.declared.command.Command as code
 use Rattle.dvi_code.specs.declared.command.Command.TheVariants as read
 use Rattle.dvi_code.specs.Commands as c
@@ -55,7 +56,7 @@ after_item widths fonts r others at (said cmd) =
     if ends_pages cmd then Ok []
     else (placed_at at (read_on widths fonts r cmd) >>= λ q. others q >>= λ pages. Ok (page_ended r cmd ++ pages))
 after_item widths fonts r others at (bad kind) = Err (fault_at at kind)
-after_item widths fonts r others at (fill bytes) = Ok []
+after_item widths fonts r others at (fill bytes) = others r
 
 unfoldable pub pages_on : Widths → List FontDef → Reader → List Placed → Result (List DviPage) DviBad
 pages_on widths fonts r [] = Ok []
@@ -108,3 +109,10 @@ moves_down (read.Y n) = true
 moves_down read.Z0 = true
 moves_down (read.Z n) = true
 moves_down _ = false
+
+abbrev pub reader_of : List FontDef → readers.Reader → Reader
+reader_of fonts r = reader r.counts (pen_of fonts r.pen)
+
+abbrev pub list_of : Option DviPage → List DviPage
+list_of None = []
+list_of (Some page) = page ∷ []

@@ -9,6 +9,7 @@ mod definitions;
 mod mark;
 mod number;
 mod page;
+mod pages;
 mod pen;
 mod reading;
 mod refusal;
@@ -21,6 +22,7 @@ pub use font::{FontDef, Widths};
 pub use mark::{Mark, Marks, What};
 pub use number::{put_short, put_signed, put_unsigned};
 pub use page::{DviPage, DviPages};
+pub use pages::read_pages;
 pub use reading::next_command;
 pub use structure::fonts;
 
