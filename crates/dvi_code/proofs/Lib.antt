@@ -13,3 +13,5 @@ pub mod Walking
 pub mod Pens
 pub mod Straight
 pub mod PageReads
+pub mod Whole
+pub mod LawProofs

@@ -81,7 +81,7 @@ closed_agrees s sheet (suc depth) = record { is = refl }
 
 inside_agrees : (s : Shape) (counts : List ℤ) (body : List Command) (places : List ℕ) (r : Result Inside DviKind) →
     Agree (r >>= λ j. Ok (record { last = s.last; fonts = s.fonts; sheets = s.sheets; phase = parts.within counts body places j }))
-        (kept s.fonts (r >>= λ j. Ok (record { last = s.last; pages = length s.sheets; stage = o.within j })))
+    (kept s.fonts (r >>= λ j. Ok (record { last = s.last; pages = length s.sheets; stage = o.within j })))
 inside_agrees s counts body places (Ok j) = record { is = refl }
 inside_agrees s counts body places (Err k) = record { is = refl }
 

@@ -379,7 +379,7 @@ fill_follows widths t last fonts sheets (parts.within counts body places i) at b
 fill_follows widths t last fonts sheets (parts.behind post) at bytes ps f = record { added = f.added; fonts_are = f.fonts_are; pages = f.pages }
 fill_follows widths t last fonts sheets parts.ended at bytes ps f = record { added = f.added; fonts_are = f.fonts_are; pages = f.pages }
 
-filled_same : {A : Type 0} (x y : A) (at count : ℕ) (bytes : List ℕ) → parts.filled x at count bytes ≡ Ok y → x ≡ y
+pub filled_same : {A : Type 0} (x y : A) (at count : ℕ) (bytes : List ℕ) → parts.filled x at count bytes ≡ Ok y → x ≡ y
 unfolding parts.filled
 filled_same x y at count [] e = if_ok (nat_le 4 count && nat_eq (at % 4) 0) x y _ e
 filled_same x y at count (b ∷ bs) e = by_byte (nat_eq b 223) e (λ h. filled_same x y (at + 1) (count + 1) bs h)
@@ -455,6 +455,7 @@ file_ends (b ∷ bs) at zero s t e = by_command (command (b ∷ bs)) e (λ skip 
     by_last false cmd rest place skip last e on =
         let w = went_on s t _ (placed_at at (obeyed s s.phase at cmd)) e in
         on w.0 w.2
+
     by_command : (r : Field Command) → walk s (placed_first at (length bs) (λ skip. placed (at + 1) skip bs) r) ≡ done t → ((skip : ℕ) (u : Shape) → walk u (placed (at + 1) skip bs) ≡ done t → t.phase ≡ parts.ended) → t.phase ≡ parts.ended
     by_command (Err k) e on = absurd (never s t _ e)
     by_command (Ok x) e on = by_last (is_last x.0) x.0 x.1 _ (length bs - length x.1) refl e (on (length bs - length x.1))

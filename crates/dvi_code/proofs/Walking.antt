@@ -153,6 +153,7 @@ step_fault (faults.Bad b) bytes at after o cmd begun says lt le a = by_last (is_
   where
     is : placed_at at (outlined o at cmd) ≡ Err b
     is = fault_is _ b a
+
     by_last : (l : Bool) → is_last cmd ≡ l → faulted (outline_fonts bytes) ≡ Err (faults.Bad b)
     by_last true last =
         let walk : outline_walk start_outline (placed 0 0 bytes) ≡ Err b = sym begun ∙ outline_last bytes at after o cmd (said_is at _ _ says) lt le last ∙ ap (λ (r : Result Outline DviBad). r >>= λ t. filled t after 0 (drop after bytes)) is in

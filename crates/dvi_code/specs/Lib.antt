@@ -9,3 +9,4 @@ pub mod Answers
 pub mod Outline
 pub mod FontPlaces
 pub mod Straight
+pub mod Laws

@@ -16,7 +16,7 @@ use Rattle.dvi_code.specs.declared.mark.Mark.{Mark}
 use Rattle.dvi_code.specs.declared.page.DviPage.{DviPage}
 use Rattle.dvi_code.specs.Commands as c
 use Rattle.dvi_code.specs.Commands.{Command, dir_of}
-use Rattle.dvi_code.specs.Structure.{font_of, Sheet, structure, fault_at}
+use Rattle.dvi_code.specs.Structure.{font_of, Sheet, structure, whole_sheets, fault_at}
 
 -- the width of a character of a font at its size, if the font has it
 abbrev pub Widths : Type 0
@@ -151,3 +151,7 @@ pages_of widths (s ∷ ss) = do
 -- the pages of a file, or its first fault, those of the structure before any other
 abbrev pub file_pages : Widths → List ℕ → Result (List DviPage) DviBad
 file_pages widths bytes = structure bytes >>= λ s. pages_of widths s.sheets
+
+-- the pages of a prefix of a file that are whole: those whose eop is in it
+abbrev pub whole_pages : Widths → List ℕ → Result (List DviPage) DviBad
+whole_pages widths bytes = pages_of widths (whole_sheets bytes)

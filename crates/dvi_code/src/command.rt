@@ -22,7 +22,10 @@ pub enum Command {
     /// Does nothing.
     Nop,
     /// Begins a page: its counts, and the place of the page before, -1 where there is none.
-    Bop { counts: [i32; 10], back: i32 },
+    Bop {
+        counts: [i32; 10],
+        back: i32,
+    },
     /// Ends a page.
     Eop,
     /// Saves the point, the direction, and w, x, y and z.
@@ -82,7 +85,10 @@ pub enum Command {
         pages: u16,
     },
     /// Ends the commands, with the place of post.
-    PostPost { post: i32, id: u8 },
+    PostPost {
+        post: i32,
+        id: u8,
+    },
     /// Turns to the direction of this byte: 0 yoko, 1 tate, 3 dtou.
     Direction(u8),
 }

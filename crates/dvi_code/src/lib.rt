@@ -2,10 +2,11 @@
 #![tactic(auto)]
 
 mod command;
+mod definitions;
 mod fault;
 mod field;
 mod font;
-mod definitions;
+pub mod laws;
 mod mark;
 mod number;
 mod page;

@@ -126,11 +126,7 @@ fn pages_with<W: Widths>(
 /// sections 583 to 591; directions are pTeX's). `Bad` comes exactly where the file has a fault, with
 /// the first: those of the structure before `Width` and `Range`.
 #[tactic(auto, using(crate::proofs::Straight::pages_are, crate::proofs::Straight::no_pages, crate::proofs::Outlines::fonts_are))]
-pub fn read_pages<W: Widths>(
-    alloc: Global,
-    bytes: &[u8],
-    widths: &W,
-) -> Result<DviPages, DviFault>
+pub fn read_pages<W: Widths>(alloc: Global, bytes: &[u8], widths: &W) -> Result<DviPages, DviFault>
     ensures { Agrees (λ p. p) dvi_cause result (faulted (file_pages (W.width_of widths.now) bytes.now)) }
 {
     match checked(alloc, bytes) {

@@ -9,8 +9,8 @@ ghost use Rattle.dvi_code.specs.Commands.{dir_of};
 ghost use Rattle.dvi_code.specs.Outline.{inside_of, stage_of, standing_of, pointer_of, depth_of, start_outline, page_counted, within, stood, stood_ahead, stood_between, stood_within, stood_behind, may_define};
 
 use crate::command::Command;
-use crate::fault::DviKind;
 use crate::definitions::Fonts;
+use crate::fault::DviKind;
 
 /// Within a page: how many positions are pushed, and whether a font is chosen.
 #[derive(Clone, Copy, Debug)]
@@ -113,9 +113,15 @@ impl Inside {
             Command::Pop => self.popped(),
             Command::Font(number) => self.selected(fonts, number),
             Command::Direction(dir) => self.turned(dir),
-            Command::SetRule(..) | Command::PutRule(..) | Command::Nop | Command::Xxx(_) => Ok(self),
-            Command::Right(_) | Command::W0 | Command::W(_) | Command::X0 | Command::X(_) => Ok(self),
-            Command::Down(_) | Command::Y0 | Command::Y(_) | Command::Z0 | Command::Z(_) => Ok(self),
+            Command::SetRule(..) | Command::PutRule(..) | Command::Nop | Command::Xxx(_) => Ok(
+                self,
+            ),
+            Command::Right(_) | Command::W0 | Command::W(_) | Command::X0 | Command::X(_) => Ok(
+                self,
+            ),
+            Command::Down(_) | Command::Y0 | Command::Y(_) | Command::Z0 | Command::Z(_) => Ok(
+                self,
+            ),
             _ => Err(DviKind::Misplaced),
         }
     }
@@ -152,9 +158,13 @@ impl Standing {
         ensures depth { IfOk result (λ st. depth_of st.stage ≡ 0) }
     {
         match *command {
-            Command::Pre { id, num, den, mag, .. }
-                if id == 2 && num == 25_400_000 && den == 473_628_672 && mag == 1000 =>
-            {
+            Command::Pre {
+                id,
+                num,
+                den,
+                mag,
+                ..
+            } if id == 2 && num == 25_400_000 && den == 473_628_672 && mag == 1000 => {
                 Ok(self.at_stage(Stage::Between))
             }
             _ => Err(DviKind::Preamble),

@@ -12,9 +12,9 @@ ghost use Rattle.dvi_code.specs.Places.{is_last};
 ghost use Rattle.dvi_code.specs.FontPlaces.{named_font};
 
 use crate::command::{Command, Part};
+use crate::definitions::{Fonts, Numbers};
 use crate::fault::{DviBad, DviFault, DviKind};
 use crate::font::FontDef;
-use crate::definitions::{Fonts, Numbers};
 use crate::reading::command_from;
 use crate::refusal::Refusal;
 use crate::standing::Standing;
