@@ -6,8 +6,8 @@ use Rattle.dvi_code.specs.declared.fault.DviBad.{DviBad}
 use Rattle.dvi_code.specs.declared.font.FontDef.{FontDef}
 use Rattle.dvi_code.specs.declared.page.DviPage.{DviPage}
 use Rattle.ts_outside.specs.Endings.{with_ending, metric_ending}
-use Rattle.dvi_code.specs.Fields.{unsigned, signed, counts}
-use Rattle.dvi_code.specs.Commands.{font_def_after, pre_after, post_after, command_after, command}
+use Rattle.dvi_code.specs.Fields.{unsigned, signed, counts, font_number}
+use Rattle.dvi_code.specs.Commands.{mark_after, group_after, right_after, down_after, font_after, font_def_after, file_after, pre_after, post_after, command_after, command}
 use Rattle.dvi_code.specs.Places.{placed}
 use Rattle.dvi_code.specs.Structure.{is_sound_font, inside, at_start, at_gap, in_page, at_back, filled, walk, fault_at, whole_sheets}
 use Rattle.dvi_code.specs.Pages.{Widths, spot, glyph, drawn, all_drawn, pages_of, file_pages}
@@ -88,12 +88,12 @@ abbrev jp10 : FontDef
 jp10 = record { number = pos 0; check_sum = 0; size = 655360; design = 655360; name = jp10_name }
 
 is_read : file_pages full (with_page (definition ++ body)) ≡ Ok (record { counts = replicate 10 (pos 0); marks = glyph jp10 9250 (spot (pos 0) (pos 573440) Yoko) ∷ glyph jp10 9252 (spot (pos 655360) (pos 573440) Yoko) ∷ [] } ∷ [])
-unfolding unsigned signed counts font_def_after pre_after post_after command_after command placed is_sound_font inside at_start at_gap in_page at_back filled walk drawn all_drawn pages_of
+unfolding unsigned signed counts font_def_after pre_after post_after mark_after group_after right_after down_after font_number font_after file_after command_after command placed is_sound_font inside at_start at_gap in_page at_back filled walk drawn all_drawn pages_of
 is_read = refl
 
 -- a file with a comment and without pages
 is_empty : file_pages empty (pre 2 192 0 232 (97 ∷ 98 ∷ []) ++ post minus_one 0 ++ post_post 17 3 ++ replicate 4 223) ≡ Ok []
-unfolding unsigned signed counts font_def_after pre_after post_after command_after command placed is_sound_font inside at_start at_gap in_page at_back filled walk drawn all_drawn pages_of
+unfolding unsigned signed counts font_def_after pre_after post_after mark_after group_after right_after down_after font_number font_after file_after command_after command placed is_sound_font inside at_start at_gap in_page at_back filled walk drawn all_drawn pages_of
 is_empty = refl
 
 -- an empty page, and one with the counts 1 to 10, the third below 0, and font 63 of area a/ and name b
@@ -113,12 +113,12 @@ are_read : file_pages full (two_pages (234 ∷ movements ++ 129 ∷ 255 ∷ 254 
     record { counts = replicate 10 (pos 0); marks = [] }
     ∷ record { counts = pos 1 ∷ pos 2 ∷ negsuc 2 ∷ pos 4 ∷ pos 5 ∷ pos 6 ∷ pos 7 ∷ pos 8 ∷ pos 9 ∷ pos 10 ∷ []; marks = glyph a_b 65534 (spot (pos 65789) (pos 16711427) Yoko) ∷ [] }
     ∷ [])
-unfolding unsigned signed counts font_def_after pre_after post_after command_after command placed is_sound_font inside at_start at_gap in_page at_back filled walk drawn all_drawn pages_of
+unfolding unsigned signed counts font_def_after pre_after post_after mark_after group_after right_after down_after font_number font_after file_after command_after command placed is_sound_font inside at_start at_gap in_page at_back filled walk drawn all_drawn pages_of
 are_read = refl
 
 -- whole pages: behind eop, before it, in the second page, in a whole file
 whole_pages : map (λ (bytes : List ℕ). length (whole_sheets bytes)) (with_end [] ∷ (preamble ++ page_begins ++ definition ++ body) ∷ (preamble ++ page_begins ++ 140 ∷ 139 ∷ []) ∷ two_pages (idle 16) ∷ []) ≡ 1 ∷ 0 ∷ 1 ∷ 2 ∷ []
-unfolding unsigned signed counts font_def_after pre_after post_after command_after command placed is_sound_font inside at_start at_gap in_page at_back filled walk
+unfolding unsigned signed counts font_def_after pre_after post_after mark_after group_after right_after down_after font_number font_after file_after command_after command placed is_sound_font inside at_start at_gap in_page at_back filled walk
 whole_pages = refl
 
 -- ---- files that are wrong, each with its fault
@@ -177,12 +177,12 @@ wrong_structures =
     ∷ []
 
 structures_are_refused : map (read_by full) wrong_structures ≡ map refused wrong_structures
-unfolding unsigned signed counts font_def_after pre_after post_after command_after command placed is_sound_font inside at_start at_gap in_page at_back filled walk drawn all_drawn pages_of
+unfolding unsigned signed counts font_def_after pre_after post_after mark_after group_after right_after down_after font_number font_after file_after command_after command placed is_sound_font inside at_start at_gap in_page at_back filled walk drawn all_drawn pages_of
 structures_are_refused = refl
 
 -- No character has a width.
 width_is_missed : file_pages empty (with_page (definition ++ body)) ≡ Err (fault_at 92 kinds.Width)
-unfolding unsigned signed counts font_def_after pre_after post_after command_after command placed is_sound_font inside at_start at_gap in_page at_back filled walk drawn all_drawn pages_of
+unfolding unsigned signed counts font_def_after pre_after post_after mark_after group_after right_after down_after font_number font_after file_after command_after command placed is_sound_font inside at_start at_gap in_page at_back filled walk drawn all_drawn pages_of
 width_is_missed = refl
 
 -- to the right, to the left, downwards and by a glyph; and a wrong structure further on, which counts first
@@ -196,7 +196,7 @@ wrong_places =
     ∷ []
 
 places_are_refused : map (read_by full) wrong_places ≡ map refused wrong_places
-unfolding unsigned signed counts font_def_after pre_after post_after command_after command placed is_sound_font inside at_start at_gap in_page at_back filled walk drawn all_drawn pages_of
+unfolding unsigned signed counts font_def_after pre_after post_after mark_after group_after right_after down_after font_number font_after file_after command_after command placed is_sound_font inside at_start at_gap in_page at_back filled walk drawn all_drawn pages_of
 places_are_refused = refl
 
 -- ---- endings: a.b and a/b. have one, ab and a./b have none

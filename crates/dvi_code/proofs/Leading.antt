@@ -3,7 +3,7 @@ use Rattle.std.proofs.Common.{◌≡◌, ℕ, suc, ◌-◌, ◌+◌, List, [], �
 use Rattle.std.proofs.lemmas.List.{append-nil}
 use Rattle.dvi_code.specs.declared.font.FontDef.{FontDef}
 use Rattle.dvi_code.specs.Commands as c
-use Rattle.dvi_code.specs.Commands.{Command, command}
+use Rattle.dvi_code.specs.Commands.{Command, Definition, command}
 use Rattle.dvi_code.specs.Places.{Placed, said, fill, is_last, placed}
 use Rattle.dvi_code.specs.Structure.{Shape, walk, obeyed, Inside, inside, in_page, within}
 use Rattle.dvi_code.specs.Reading.{Spells, Leads, all_inside}
@@ -72,25 +72,16 @@ no_eop : (fonts : List FontDef) (i j : Inside) → inside fonts i c.eop ≡ Ok j
 unfolding inside
 no_eop fonts i j e = cc
 
-no_font_def : (fonts : List FontDef) (i j : Inside) (f : FontDef) → inside fonts i (c.font_def f) ≡ Ok j → ⊥
+no_font_def : (fonts : List FontDef) (i j : Inside) (d : Definition) → inside fonts i (c.font_def d) ≡ Ok j → ⊥
 unfolding inside
-no_font_def fonts i j f e = cc
+no_font_def fonts i j d e = cc
 
 in_body : (s : Shape) (counts : List ℤ) (body : List Command) (places : List ℕ) (i j : Inside) (at : ℕ) (cmd : Command) → inside s.fonts i cmd ≡ Ok j
     → in_page s counts body places i at cmd ≡ Ok (paged s counts (body ++ cmd ∷ []) (places ++ at ∷ []) j)
 unfolding in_page
-in_body s counts body places i j at (c.set n) e = rw e refl
-in_body s counts body places i j at (c.bop cs b) e = rw e refl
 in_body s counts body places i j at c.eop e = absurd (no_eop s.fonts i j e)
-in_body s counts body places i j at c.push e = rw e refl
-in_body s counts body places i j at c.pop e = rw e refl
-in_body s counts body places i j at (c.right n) e = rw e refl
-in_body s counts body places i j at (c.down n) e = rw e refl
-in_body s counts body places i j at (c.font n) e = rw e refl
-in_body s counts body places i j at (c.font_def f) e = absurd (no_font_def s.fonts i j f e)
-in_body s counts body places i j at (c.pre p) e = rw e refl
-in_body s counts body places i j at (c.post p) e = rw e refl
-in_body s counts body places i j at (c.post_post p id) e = rw e refl
+in_body s counts body places i j at (c.font_def d) e = absurd (no_font_def s.fonts i j d e)
+in_body s counts body places i j at _ e = rw e refl
 
 -- Commands that are right within a page lead on within it.
 pub Leads-body : (cs : List Command) (s : Shape) (counts : List ℤ) (body : List Command) (places : List ℕ) (i j : Inside) (at : ℕ) (bytes : List ℕ) → Spells bytes cs → all_inside s.fonts i cs ≡ Ok j

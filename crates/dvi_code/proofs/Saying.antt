@@ -10,9 +10,9 @@ use Rattle.std.proofs.lemmas.List.{append-nil, take-append-le, drop-append-le, t
 use Rattle.std.proofs.lemmas.Bool.{le-ltb}
 use Rattle.ts_base.specs.Agreement.{◌>>=◌}
 use Rattle.dvi_code.specs.declared.font.FontDef.{FontDef}
-use Rattle.dvi_code.specs.Fields.{Field, text, value_after, unsigned, with_sign, signed}
+use Rattle.dvi_code.specs.Fields.{Field, text, value_after, unsigned, with_sign, signed, font_number}
 use Rattle.dvi_code.specs.Commands as c
-use Rattle.dvi_code.specs.Commands.{Command, Postamble, command, command_after, font_def_after, post_after}
+use Rattle.dvi_code.specs.Commands.{Command, Definition, Postamble, command, command_after, mark_after, group_after, right_after, down_after, font_after, font_def_after, file_after, post_after}
 
 -- ---- numbers
 
@@ -84,37 +84,40 @@ signed_alone z fits = ap (signed 4) (sym (append-nil (four z))) ∙ signed-again
 -- ---- commands
 
 pub says_right : (z : ℤ) → FitsSigned w32 z → command (146 ∷ four z) ≡ Ok (c.right z, [])
-unfolding command command_after
+unfolding command command_after right_after
 says_right z fits = ap (λ (x : Field ℤ). x >>= λ n. Ok (c.right n.0, n.1)) (signed_alone z fits)
 
 pub says_down : (z : ℤ) → FitsSigned w32 z → command (160 ∷ four z) ≡ Ok (c.down z, [])
-unfolding command command_after
+unfolding command command_after down_after
 says_down z fits = ap (λ (x : Field ℤ). x >>= λ n. Ok (c.down n.0, n.1)) (signed_alone z fits)
 
 pub says_set : (code : ℕ) → code < 2 ^ 16 → command (129 ∷ bytes_high_first 2 code) ≡ Ok (c.set code, [])
-unfolding command command_after
+unfolding command command_after mark_after
 says_set code lt = ap (λ (x : Field ℕ). x >>= λ n. Ok (c.set n.0, n.1)) (ap (unsigned 2) (sym (append-nil (bytes_high_first 2 code))) ∙ unsigned-again 2 code [] lt)
 
 pub says_push : command (141 ∷ []) ≡ Ok (c.push, [])
-unfolding command command_after
+unfolding command command_after group_after
 says_push = refl
 
 pub says_pop : command (142 ∷ []) ≡ Ok (c.pop, [])
-unfolding command command_after
+unfolding command command_after group_after
 says_pop = refl
 
 pub says_eop : command (140 ∷ []) ≡ Ok (c.eop, [])
-unfolding command command_after
+unfolding command command_after group_after
 says_eop = refl
 
 pub says_post_post : (at : ℤ) (id : ℕ) → FitsSigned w32 at → command (249 ∷ (four at ++ id ∷ [])) ≡ Ok (c.post_post at id, [])
-unfolding command command_after
+unfolding command command_after file_after
 says_post_post at id fits = rw (signed-again at (id ∷ []) fits) refl
 
 -- a definition whose area is empty
+abbrev pub plain_definition : FontDef → Definition
+plain_definition f = record { number = f.number; check_sum = f.check_sum; size = f.size; design = f.design; area = []; name = f.name }
+
 pub says_font_def : (f : FontDef) (number : ℕ) → f.number ≡ pos number → number < 256 → f.check_sum < 2 ^ 32 → f.size < 2 ^ 32 → f.design < 2 ^ 32
-    → command (243 ∷ number ∷ (bytes_high_first 4 f.check_sum ++ (bytes_high_first 4 f.size ++ (bytes_high_first 4 f.design ++ 0 ∷ length f.name ∷ f.name)))) ≡ Ok (c.font_def f, [])
-unfolding command command_after font_def_after
+    → command (243 ∷ number ∷ (bytes_high_first 4 f.check_sum ++ (bytes_high_first 4 f.size ++ (bytes_high_first 4 f.design ++ 0 ∷ length f.name ∷ f.name)))) ≡ Ok (c.font_def (plain_definition f), [])
+unfolding command command_after font_after font_number font_def_after
 says_font_def f number is small check_sum size design =
     let tail1 : List ℕ = 0 ∷ length f.name ∷ f.name in
     let tail2 : List ℕ = bytes_high_first 4 f.design ++ tail1 in
@@ -130,7 +133,7 @@ says_font_def f number is small check_sum size design =
 -- post, behind the place of the last bop
 pub says_post : (p : Postamble) → FitsSigned w32 p.back → p.num < 2 ^ 32 → p.den < 2 ^ 32 → p.mag < 2 ^ 32 → p.height < 2 ^ 32 → p.width < 2 ^ 32 → p.stack < 2 ^ 16 → p.pages < 2 ^ 16
     → command (248 ∷ (four p.back ++ (bytes_high_first 4 p.num ++ (bytes_high_first 4 p.den ++ (bytes_high_first 4 p.mag ++ (bytes_high_first 4 p.height ++ (bytes_high_first 4 p.width ++ (bytes_high_first 2 p.stack ++ bytes_high_first 2 p.pages)))))))) ≡ Ok (c.post p, [])
-unfolding command command_after post_after
+unfolding command command_after file_after post_after
 says_post p back num den mag height width stack pages =
     let tail1 : List ℕ = bytes_high_first 2 p.pages in
     let tail2 : List ℕ = bytes_high_first 2 p.stack ++ tail1 in

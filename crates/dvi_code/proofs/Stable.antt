@@ -6,8 +6,9 @@ use Rattle.std.proofs.lemmas.Bool.{ltb-false, le-ltb}
 use Rattle.ts_base.specs.Agreement.{◌>>=◌}
 use Rattle.dvi_code.specs.declared.fault.DviKind.{DviKind}
 use Rattle.dvi_code.specs.declared.fault.DviKind.TheVariants.{Truncated, Opcode}
-use Rattle.dvi_code.specs.Fields.{Field, byte, text, value_after, unsigned, with_sign, signed, counts}
-use Rattle.dvi_code.specs.Commands.{command, command_after, font_def_after, pre_after, post_after}
+use Rattle.dvi_code.specs.Fields.{Field, byte, text, value_after, unsigned, with_sign, signed, counts, font_number}
+use Rattle.dvi_code.specs.Commands as c
+use Rattle.dvi_code.specs.Commands.{Command, command, command_after, mark_after, group_after, right_after, down_after, font_after, font_def_after, file_after, pre_after, post_after}
 
 pub record Stable {A : Type 0} (p : List ℕ → Field A) : Type 0 where
   pub again : (x y : List ℕ) (a : A) (r : List ℕ) → p x ≡ Ok (a, r) → p (x ++ y) ≡ Ok (a, r ++ y)
@@ -81,6 +82,10 @@ unfolding counts
 Stable-counts zero = Stable-ok []
 Stable-counts (suc n) = Stable-then (signed 4) (λ f x. counts n x >>= λ os. Ok (f ∷ os.0, os.1)) (Stable-signed 4) (λ f. Stable-then (counts n) (λ os x. Ok (f ∷ os, x)) (Stable-counts n) (λ os. Stable-ok _))
 
+Stable-font_number : (len : ℕ) → Stable (font_number len)
+unfolding font_number
+Stable-font_number len = Stable-if (nat_eq len 4) _ _ (Stable-signed 4) (Stable-then (unsigned len) (λ n x. Ok (pos n, x)) (Stable-unsigned len) (λ n. Stable-ok _))
+
 Stable-font_def : (number : ℤ) → Stable (font_def_after number)
 unfolding font_def_after
 Stable-font_def number = Stable-then (unsigned 4) _ (Stable-unsigned 4) (λ check_sum. Stable-then (unsigned 4) _ (Stable-unsigned 4) (λ size. Stable-then (unsigned 4) _ (Stable-unsigned 4) (λ design.
@@ -96,23 +101,76 @@ unfolding post_after
 Stable-post = Stable-then (signed 4) _ (Stable-signed 4) (λ back. Stable-then (unsigned 4) _ (Stable-unsigned 4) (λ num. Stable-then (unsigned 4) _ (Stable-unsigned 4) (λ den. Stable-then (unsigned 4) _ (Stable-unsigned 4) (λ mag.
     Stable-then (unsigned 4) _ (Stable-unsigned 4) (λ height. Stable-then (unsigned 4) _ (Stable-unsigned 4) (λ width. Stable-then (unsigned 2) _ (Stable-unsigned 2) (λ stack. Stable-then (unsigned 2) _ (Stable-unsigned 2) (λ pages. Stable-ok _))))))))
 
+-- a command with one number
+Stable-one : {A : Type 0} (p : List ℕ → Field A) (f : A → Command) → Stable p → Stable (λ x. p x >>= λ n. Ok (f n.0, n.1))
+Stable-one p f h = Stable-then p (λ n x. Ok (f n, x)) h (λ n. Stable-ok _)
+
+Stable-rule : (f : ℤ → ℤ → Command) → Stable (λ x. signed 4 x >>= λ height. signed 4 height.1 >>= λ width. Ok (f height.0 width.0, width.1))
+Stable-rule f = Stable-then (signed 4) _ (Stable-signed 4) (λ height. Stable-one (signed 4) (f height) (Stable-signed 4))
+
+Stable-mark : (op : ℕ) → Stable (mark_after op)
+unfolding mark_after
+Stable-mark op =
+    Stable-if (nat_le op 127) _ _ (Stable-ok _)
+    (Stable-if (nat_le op 131) _ _ (Stable-one (unsigned (op - 127)) c.set (Stable-unsigned _))
+    (Stable-if (nat_eq op 132) _ _ (Stable-rule c.set_rule)
+    (Stable-if (nat_le op 136) _ _ (Stable-one (unsigned (op - 132)) c.put (Stable-unsigned _))
+    (Stable-rule c.put_rule))))
+
+Stable-group : (op : ℕ) → Stable (group_after op)
+unfolding group_after
+Stable-group op =
+    Stable-if (nat_eq op 138) _ _ (Stable-ok _)
+    (Stable-if (nat_eq op 139) _ _ (Stable-then (counts 10) _ (Stable-counts 10) (λ cs. Stable-one (signed 4) (c.bop cs) (Stable-signed 4)))
+    (Stable-if (nat_eq op 140) _ _ (Stable-ok _)
+    (Stable-if (nat_eq op 141) _ _ (Stable-ok _)
+    (Stable-ok _))))
+
+Stable-right : (op : ℕ) → Stable (right_after op)
+unfolding right_after
+Stable-right op =
+    Stable-if (nat_le op 146) _ _ (Stable-one (signed (op - 142)) c.right (Stable-signed _))
+    (Stable-if (nat_eq op 147) _ _ (Stable-ok _)
+    (Stable-if (nat_le op 151) _ _ (Stable-one (signed (op - 147)) c.w (Stable-signed _))
+    (Stable-if (nat_eq op 152) _ _ (Stable-ok _)
+    (Stable-one (signed (op - 152)) c.x (Stable-signed _)))))
+
+Stable-down : (op : ℕ) → Stable (down_after op)
+unfolding down_after
+Stable-down op =
+    Stable-if (nat_le op 160) _ _ (Stable-one (signed (op - 156)) c.down (Stable-signed _))
+    (Stable-if (nat_eq op 161) _ _ (Stable-ok _)
+    (Stable-if (nat_le op 165) _ _ (Stable-one (signed (op - 161)) c.y (Stable-signed _))
+    (Stable-if (nat_eq op 166) _ _ (Stable-ok _)
+    (Stable-one (signed (op - 166)) c.z (Stable-signed _)))))
+
+Stable-font : (op : ℕ) → Stable (font_after op)
+unfolding font_after
+Stable-font op =
+    Stable-if (nat_le op 234) _ _ (Stable-ok _)
+    (Stable-if (nat_le op 238) _ _ (Stable-one (font_number (op - 234)) c.font (Stable-font_number _))
+    (Stable-if (nat_le op 242) _ _ (Stable-then (unsigned (op - 238)) _ (Stable-unsigned _) (λ len. Stable-one (text len) c.xxx (Stable-text len)))
+    (Stable-then (font_number (op - 242)) font_def_after (Stable-font_number _) Stable-font_def)))
+
+Stable-file : (op : ℕ) → Stable (file_after op)
+unfolding file_after
+Stable-file op =
+    Stable-if (nat_eq op 247) _ _ Stable-pre
+    (Stable-if (nat_eq op 248) _ _ Stable-post
+    (Stable-if (nat_eq op 249) _ _ (Stable-then (signed 4) _ (Stable-signed 4) (λ p. Stable-one byte (c.post_post p) Stable-byte))
+    (Stable-if (nat_eq op 255) _ _ (Stable-one byte c.direction Stable-byte)
+    (Stable-err Opcode))))
+
 Stable-command_after : (op : ℕ) → Stable (command_after op)
 unfolding command_after
 Stable-command_after op =
-    Stable-if (nat_eq op 129) _ _ (Stable-then (unsigned 2) _ (Stable-unsigned 2) (λ n. Stable-ok _))
-    (Stable-if (nat_eq op 139) _ _ (Stable-then (counts 10) _ (Stable-counts 10) (λ cs. Stable-then (signed 4) _ (Stable-signed 4) (λ b. Stable-ok _)))
-    (Stable-if (nat_eq op 140) _ _ (Stable-ok _)
-    (Stable-if (nat_eq op 141) _ _ (Stable-ok _)
-    (Stable-if (nat_eq op 142) _ _ (Stable-ok _)
-    (Stable-if (nat_le 143 op && nat_le op 146) _ _ (Stable-then (signed (op - 142)) _ (Stable-signed (op - 142)) (λ n. Stable-ok _))
-    (Stable-if (nat_le 157 op && nat_le op 160) _ _ (Stable-then (signed (op - 156)) _ (Stable-signed (op - 156)) (λ n. Stable-ok _))
-    (Stable-if (nat_le 171 op && nat_le op 234) _ _ (Stable-ok _)
-    (Stable-if (nat_eq op 243) _ _ (Stable-then (unsigned 1) _ (Stable-unsigned 1) (λ n. Stable-font_def (pos n)))
-    (Stable-if (nat_eq op 247) _ _ Stable-pre
-    (Stable-if (nat_eq op 248) _ _ Stable-post
-    (Stable-if (nat_eq op 249) _ _ (Stable-then (signed 4) _ (Stable-signed 4) (λ p. Stable-then byte _ Stable-byte (λ id. Stable-ok _)))
-    (Stable-err Opcode))))))))))))
+    Stable-if (nat_le op 137) _ _ (Stable-mark op)
+    (Stable-if (nat_le op 142) _ _ (Stable-group op)
+    (Stable-if (nat_le op 156) _ _ (Stable-right op)
+    (Stable-if (nat_le op 170) _ _ (Stable-down op)
+    (Stable-if (nat_le op 246) _ _ (Stable-font op)
+    (Stable-file op)))))
 
 pub Stable-command : Stable command
 unfolding command
-Stable-command = Stable-then byte _ Stable-byte (λ op. Stable-command_after op)
+Stable-command = Stable-then byte _ Stable-byte Stable-command_after

@@ -1,9 +1,10 @@
 -- The fields of a command (TeX: The Program, sections 583 to 590): each is read at the front of bytes,
 -- and gives its value and the bytes after it, or the fault that they end too early.
-use Rattle.std.specs.Prelude.{ℕ, zero, suc, ◌+◌, ◌*◌, ◌-◌, ◌^◌, List, [], ◌∷◌, length, take, drop, Result, Ok, Err, ℤ, pos, ◌-ℤ◌, nat_lt, if◌then◌else◌}
+use Rattle.std.specs.Prelude.{◌≡◌, ℕ, zero, suc, ◌+◌, ◌*◌, ◌-◌, ◌^◌, List, [], ◌∷◌, length, take, drop, Result, Ok, Err, ℤ, pos, ◌-ℤ◌, nat_lt, nat_eq, if◌then◌else◌}
 use Rattle.std.specs.Int.{w32, cast_unsigned}
 use Rattle.byteorder.specs.Endian.{big_bytes}
 use Rattle.ts_base.specs.Agreement.{◌>>=◌}
+use Rattle.dvi_code.specs.declared.command.Part.{Part}
 use Rattle.dvi_code.specs.declared.fault.DviKind.{DviKind}
 use Rattle.dvi_code.specs.declared.fault.DviKind.TheVariants.{Truncated}
 
@@ -45,3 +46,20 @@ counts (suc n) bytes = do
 -- the four bytes of a number with a sign
 abbrev pub signed_bytes : ℤ → List ℕ
 signed_bytes z = big_bytes 4 (cast_unsigned w32 z)
+
+-- a number that selects a font: that of four bytes has a sign
+unfoldable pub font_number : ℕ → List ℕ → Field ℤ
+font_number len bytes = if nat_eq len 4 then signed 4 bytes else (unsigned len bytes >>= λ n. Ok (pos n.0, n.1))
+
+-- the text that a part shows in a file
+abbrev pub text_of : List ℕ → Part → List ℕ
+text_of bytes part = take (part.end - part.start) (drop part.start bytes)
+
+-- What was read, seen by view, is what is defined, and so is the fault.
+abbrev pub Gives : {X Y E : Type 0} → (X → Y) → Result X E → Result Y E → Type 0
+Gives view (Ok x) given = given ≡ Ok (view x)
+Gives view (Err e) given = given ≡ Err e
+
+-- Reading goes on at a place of the file: what was read, and what is left there.
+abbrev pub left_at : {X Y : Type 0} → List ℕ → (X → Y) → X × ℕ → Y × List ℕ
+left_at bytes view x = (view x.0, drop x.1 bytes)

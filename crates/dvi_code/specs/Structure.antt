@@ -4,6 +4,7 @@
 use Rattle.std.specs.Prelude.{ℕ, zero, suc, ◌+◌, ◌%◌, List, [], ◌∷◌, ◌++◌, length, Result, Ok, Err, Option, Some, None, ℤ, pos, negsuc, Bool, true, false, nat_eq, nat_le, nat_lt, ◌&&◌, ◌||◌, if◌then◌else◌}
 use Rattle.std.specs.Ordering.{int_eq}
 use lib.Pointwise.{pointwise}
+use Rattle.ts_geometry.specs.declared.direction.Dir.{Dir}
 use Rattle.ts_base.specs.Agreement.{◌>>=◌}
 use Rattle.ts_outside.specs.Names.{is_file_name}
 use Rattle.dvi_code.specs.declared.fault.DviKind.{DviKind}
@@ -12,7 +13,7 @@ use Rattle.dvi_code.specs.declared.fault.DviBad.{DviBad}
 use Rattle.dvi_code.specs.declared.font.FontDef.{FontDef}
 use Rattle.ts_outside.specs.Endings.{with_ending, metric_ending}
 use Rattle.dvi_code.specs.Commands as c
-use Rattle.dvi_code.specs.Commands.{Command, Preamble, Postamble}
+use Rattle.dvi_code.specs.Commands.{Command, Preamble, Postamble, Definition, font_defined, dir_of}
 use Rattle.dvi_code.specs.Places.{Item, Placed, said, bad, fill, placed}
 
 -- ---- fonts
@@ -63,14 +64,35 @@ abbrev pub selected : Inside → Option FontDef → Result Inside DviKind
 selected i None = Err kinds.FontUndefined
 selected i (Some f) = Ok (record { depth = i.depth; chosen = true })
 
+abbrev pub turned : Inside → Option Dir → Result Inside DviKind
+turned i None = Err kinds.Direction
+turned i (Some dir) = Ok i
+
+abbrev pub with_glyph : Inside → Result Inside DviKind
+with_glyph i = if i.chosen then Ok i else Err kinds.FontUndefined
+
 -- A command of a page, wherever the page stands.
 unfoldable pub inside : List FontDef → Inside → Command → Result Inside DviKind
-inside fonts i (c.set code) = if i.chosen then Ok i else Err kinds.FontUndefined
+inside fonts i (c.set code) = with_glyph i
+inside fonts i (c.put code) = with_glyph i
+inside fonts i (c.set_rule height width) = Ok i
+inside fonts i (c.put_rule height width) = Ok i
+inside fonts i c.nop = Ok i
 inside fonts i c.push = Ok (record { depth = suc i.depth; chosen = i.chosen })
 inside fonts i c.pop = popped i.chosen i.depth
 inside fonts i (c.right n) = Ok i
+inside fonts i c.w0 = Ok i
+inside fonts i (c.w n) = Ok i
+inside fonts i c.x0 = Ok i
+inside fonts i (c.x n) = Ok i
 inside fonts i (c.down n) = Ok i
+inside fonts i c.y0 = Ok i
+inside fonts i (c.y n) = Ok i
+inside fonts i c.z0 = Ok i
+inside fonts i (c.z n) = Ok i
 inside fonts i (c.font n) = selected i (font_of fonts n)
+inside fonts i (c.xxx text) = Ok i
+inside fonts i (c.direction d) = turned i (dir_of d)
 inside fonts i _ = Err kinds.Misplaced
 
 -- ---- the file
@@ -97,15 +119,16 @@ start = record { last = negsuc 0; fonts = []; sheets = []; phase = ahead }
 abbrev pub has_units : Preamble → Bool
 has_units p = nat_eq p.id 2 && (nat_eq p.num 25400000 && (nat_eq p.den 473628672 && nat_eq p.mag 1000))
 
-abbrev pub with_font : Shape → FontDef → Result Shape DviKind
-with_font s f = defined s.fonts f >>= λ fonts. Ok (record { last = s.last; fonts = fonts; sheets = s.sheets; phase = s.phase })
+abbrev pub with_font : Shape → Definition → Result Shape DviKind
+with_font s d = defined s.fonts (font_defined d) >>= λ fonts. Ok (record { last = s.last; fonts = fonts; sheets = s.sheets; phase = s.phase })
 
 unfoldable pub at_start : Shape → Command → Result Shape DviKind
 at_start s (c.pre p) = if has_units p then Ok (record { last = s.last; fonts = s.fonts; sheets = s.sheets; phase = between }) else Err kinds.Preamble
 at_start s _ = Err kinds.Preamble
 
 unfoldable pub at_gap : Shape → ℕ → Command → Result Shape DviKind
-at_gap s at (c.font_def f) = with_font s f
+at_gap s at (c.font_def d) = with_font s d
+at_gap s at c.nop = Ok s
 at_gap s at (c.bop counts back) = if int_eq back s.last then Ok (record { last = pos at; fonts = s.fonts; sheets = s.sheets; phase = within counts [] [] fresh }) else Err kinds.BackPointer
 at_gap s at (c.post p) =
     if int_eq p.back s.last then (if nat_eq p.pages (length s.sheets) then Ok (record { last = s.last; fonts = s.fonts; sheets = s.sheets; phase = behind at }) else Err kinds.Postamble)
@@ -118,12 +141,13 @@ closed s sheet zero = Ok (record { last = s.last; fonts = s.fonts; sheets = s.sh
 closed s sheet (suc depth) = Err kinds.Stack
 
 unfoldable pub in_page : Shape → List ℤ → List Command → List ℕ → Inside → ℕ → Command → Result Shape DviKind
-in_page s counts body places i at (c.font_def f) = with_font s f
+in_page s counts body places i at (c.font_def d) = with_font s d
 in_page s counts body places i at c.eop = closed s (record { counts = counts; body = body; places = places; fonts = s.fonts }) i.depth
 in_page s counts body places i at cmd = inside s.fonts i cmd >>= λ j. Ok (record { last = s.last; fonts = s.fonts; sheets = s.sheets; phase = within counts (body ++ cmd ∷ []) (places ++ at ∷ []) j })
 
 unfoldable pub at_back : Shape → ℕ → Command → Result Shape DviKind
-at_back s post (c.font_def f) = with_font s f
+at_back s post (c.font_def d) = with_font s d
+at_back s post c.nop = Ok s
 at_back s post (c.post_post at id) =
     if int_eq at (pos post) then (if nat_eq id 2 || nat_eq id 3 then Ok (record { last = s.last; fonts = s.fonts; sheets = s.sheets; phase = ended }) else Err kinds.Postamble)
     else Err kinds.BackPointer
@@ -140,11 +164,15 @@ abbrev pub fault_at : ℕ → DviKind → DviBad
 fault_at at kind = record { at = at; kind = kind }
 
 -- The fill at a place, of which so many bytes stand before: each byte is 223, there are at least four, and the file's length is a multiple of four.
-unfoldable pub filled : Shape → ℕ → ℕ → List ℕ → Result Shape DviBad
+unfoldable pub filled : {A : Type 0} → A → ℕ → ℕ → List ℕ → Result A DviBad
 filled s at count [] = if nat_le 4 count && nat_eq (at % 4) 0 then Ok s else Err (fault_at at kinds.Postamble)
 filled s at count (b ∷ bs) = if nat_eq b 223 then filled s (at + 1) (count + 1) bs else Err (fault_at at kinds.Postamble)
 
-abbrev pub placed_at : ℕ → Result Shape DviKind → Result Shape DviBad
+-- the fill from a place on
+abbrev pub fill_checked : ℕ → List ℕ → Result (Unit {0}) DviBad
+fill_checked at bytes = filled {A = Unit {0}} tt at 0 bytes
+
+abbrev pub placed_at : {A : Type 0} → ℕ → Result A DviKind → Result A DviBad
 placed_at at (Ok s) = Ok s
 placed_at at (Err kind) = Err (fault_at at kind)
 
@@ -180,3 +208,7 @@ structure bytes = answer (walked bytes).shape (walked bytes).fault
 -- the whole pages of a prefix of a file: those whose eop is in it
 abbrev pub whole_sheets : List ℕ → List Sheet
 whole_sheets bytes = (walked bytes).shape.sheets
+
+-- the definitions of fonts in a file, in the order of the first of each number, or the first fault of its structure
+abbrev pub file_fonts : List ℕ → Result (List FontDef) DviBad
+file_fonts bytes = structure bytes >>= λ s. Ok s.fonts

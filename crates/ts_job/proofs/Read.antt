@@ -15,14 +15,14 @@ use Rattle.dvi_code.specs.declared.fault.DviBad.{DviBad}
 use Rattle.dvi_code.specs.declared.font.FontDef.{FontDef}
 use Rattle.dvi_code.specs.Fields.{unsigned, signed, counts}
 use Rattle.dvi_code.specs.Commands as c
-use Rattle.dvi_code.specs.Commands.{Command, Preamble, Postamble, command, command_after, pre_after}
+use Rattle.dvi_code.specs.Commands.{Command, Preamble, Postamble, command, command_after, group_after, font_after, file_after, pre_after}
 use Rattle.dvi_code.specs.Places.{said, fill, placed}
 use Rattle.dvi_code.specs.Structure.{is_sound_font, is_same_font, Sheet, Shape, Walked, inside, fresh, start, between, behind, ended, at_start, at_gap, in_page, at_back, filled, walk, walked, answer}
 use Rattle.dvi_code.specs.Pages.{Widths, Pen, clean, spot, drawn, page_of, page_from, pages_of, file_pages}
 use Rattle.dvi_code.specs.Reading.{Spells, Leads, all_inside}
 use Rattle.dvi_code.proofs.Leading.{Leads-then, Leads-one, Leads-body, paged, last_placed}
 use Rattle.dvi_code.proofs.Drawing.{Draws-cons}
-use Rattle.dvi_code.proofs.Saying.{says_eop, says_font_def, says_post, says_post_post}
+use Rattle.dvi_code.proofs.Saying.{plain_definition, says_eop, says_font_def, says_post, says_post_post}
 use Rattle.ts_job.specs.declared.writer.page.Glyph.{Glyph}
 use Rattle.ts_job.specs.Written.{HasNumbers, unit_bytes, preamble_bytes, bop_bytes, definition_bytes, glyph_bytes, page_bytes, post_bytes, post_post_bytes, fill_count, closing_bytes, end_bytes, file_bytes}
 use Rattle.std.specs.Option.{IsSomeAnd}
@@ -36,19 +36,19 @@ abbrev preamble_said : Preamble
 preamble_said = record { id = 2; num = 25400000; den = 473628672; mag = 1000; comment = [] }
 
 says_preamble : command preamble_bytes ≡ Ok (c.pre preamble_said, [])
-unfolding preamble_bytes unit_bytes command command_after pre_after unsigned
+unfolding preamble_bytes unit_bytes command command_after file_after pre_after unsigned
 says_preamble = refl
 
 says_bop : command bop_bytes ≡ Ok (c.bop (replicate 10 (pos 0)) (negsuc 0), [])
-unfolding bop_bytes command command_after counts signed unsigned
+unfolding bop_bytes command command_after group_after counts signed unsigned
 says_bop = refl
 
-says_definition : (f : FontDef) → f.number ≡ pos 0 → HasNumbers f → command (definition_bytes f) ≡ Ok (c.font_def f, [])
+says_definition : (f : FontDef) → f.number ≡ pos 0 → HasNumbers f → command (definition_bytes f) ≡ Ok (c.font_def (plain_definition f), [])
 unfolding definition_bytes
 says_definition f number has = says_font_def f 0 number (omega arith) has.check_sum has.size has.design
 
 says_font : command (171 ∷ []) ≡ Ok (c.font (pos 0), [])
-unfolding command command_after
+unfolding command command_after font_after
 says_font = refl
 
 abbrev post_said : ℕ → ℕ → Postamble
@@ -96,7 +96,7 @@ opened : (at : ℕ) → at_gap (gap (negsuc 0) [] []) at (c.bop (replicate 10 (p
 unfolding at_gap
 opened at = refl
 
-font_defined : (f : FontDef) (last at : ℕ) → is_sound_font f ≡ true → in_page (paged (gap (pos last) [] []) (replicate 10 (pos 0)) [] [] fresh) (replicate 10 (pos 0)) [] [] fresh at (c.font_def f) ≡ Ok (paged (gap (pos last) (f ∷ []) []) (replicate 10 (pos 0)) [] [] fresh)
+font_defined : (f : FontDef) (last at : ℕ) → is_sound_font f ≡ true → in_page (paged (gap (pos last) [] []) (replicate 10 (pos 0)) [] [] fresh) (replicate 10 (pos 0)) [] [] fresh at (c.font_def (plain_definition f)) ≡ Ok (paged (gap (pos last) (f ∷ []) []) (replicate 10 (pos 0)) [] [] fresh)
 unfolding in_page
 font_defined f last at sound = rw sound refl
 
@@ -148,7 +148,7 @@ post_comes : (fonts : List FontDef) (s : Sheet) (post high wide : ℕ) → at_ga
 unfolding at_gap
 post_comes fonts s post high wide = refl
 
-defined_again : (f : FontDef) (sheets : List Sheet) (post : ℕ) → at_back (closing (f ∷ []) sheets post) post (c.font_def f) ≡ Ok (closing (f ∷ []) sheets post)
+defined_again : (f : FontDef) (sheets : List Sheet) (post : ℕ) → at_back (closing (f ∷ []) sheets post) post (c.font_def (plain_definition f)) ≡ Ok (closing (f ∷ []) sheets post)
 unfolding at_back
 defined_again f sheets post = rw (same_int f.number, same_font f) refl
 

@@ -1,0 +1,25 @@
+//! Why a command is refused.
+
+ghost use Rattle.std.specs.Prelude.{◌≡◌};
+ghost use Rattle.dvi_code.specs.Answers.{refused_at};
+
+use crate::fault::{DviBad, DviFault, DviKind};
+
+/// The kind of the command's fault, or want of memory.
+#[derive(Clone, Copy, Debug, PartialEq, Eq)]
+pub(crate) enum Refusal {
+    Kind(DviKind),
+    NoMemory,
+}
+
+impl Refusal {
+    /// The fault of the command at this place.
+    pub(crate) fn at(self, at: usize) -> DviFault
+        ensures { result ≡ refused_at at self }
+    {
+        match self {
+            Refusal::Kind(kind) => DviFault::Bad(DviBad { at, kind }),
+            Refusal::NoMemory => DviFault::NoMemory,
+        }
+    }
+}
