@@ -40,7 +40,6 @@ pub(crate) struct Pen {
     saved: Vec<Spot>,
     chosen: Option<usize>,
     marks: Marks,
-    alloc: Global,
 }
 
 // A coordinate and so much, unless that passes 2^31 - 1.
@@ -101,18 +100,6 @@ fn reached(at: Point, dir: Dir, along: Sp, across: Sp) -> Result<Point, Refusal>
     }
 }
 
-/// The name of a font for a mark.
-// One place gives a mark the name, so that it can be shared here.
-fn same_name(alloc: Global, name: &FileName) -> Result<FileName, Refusal>
-    ensures ok { IfOk result (λ n. n ≡ name.now) }
-    ensures err { IfErr result (λ e. e ≡ Refusal.NoMemory) }
-{
-    match FileName::new(alloc, name.bytes()) {
-        Ok(name) => Ok(name),
-        Err(_) => Err(Refusal::NoMemory),
-    }
-}
-
 impl Pen {
     /// The pen at bop. Takes no memory.
     pub(crate) fn new(alloc: Global) -> Pen
@@ -130,7 +117,6 @@ impl Pen {
             saved: Vec::new(alloc),
             chosen: None,
             marks: Marks::new(alloc),
-            alloc,
         }
     }
 
@@ -189,16 +175,14 @@ impl Pen {
     }
 
     // The mark of a character of a font.
-    fn glyph(&self, font: &FontDef, code: u32) -> Result<Option<Mark>, Refusal>
-        ensures ok { IfOk result (λ m. m ≡ Some (glyph font.now code (spot_of self.now.spot))) }
-        ensures err { IfErr result (λ e. e ≡ Refusal.NoMemory) }
+    fn glyph(&self, font: &FontDef, code: u32) -> Mark
+        ensures { result ≡ glyph font.now code (spot_of self.now.spot) }
     {
-        let name = same_name(self.alloc, &font.name)?;
-        Ok(Some(Mark {
-            what: What::Glyph(name, font.size, code),
+        Mark {
+            what: What::Glyph(font.name.same_copy(), font.size, code),
             at: self.spot.at,
             dir: self.spot.dir,
-        }))
+        }
     }
 
     // The mark of a rule, unless its height or its width isn't above 0.
@@ -247,8 +231,8 @@ impl Pen {
         let Some(width) = widths.width(font, code) else {
             return Err(Refusal::Kind(DviKind::Width));
         };
-        let mark = self.glyph(font, code)?;
-        self.mark(mark, width)
+        let mark = self.glyph(font, code);
+        self.mark(Some(mark), width)
     }
 
     fn put<W: Widths>(&mut self, fonts: &Fonts, widths: &W, code: u32) -> Result<(), Refusal>
@@ -260,8 +244,8 @@ impl Pen {
         if widths.width(font, code).is_none() {
             return Err(Refusal::Kind(DviKind::Width));
         }
-        let mark = self.glyph(font, code)?;
-        self.mark_here(mark)
+        let mark = self.glyph(font, code);
+        self.mark_here(Some(mark))
     }
 
     fn turn(&mut self, dir: u8) -> Result<(), Refusal>
