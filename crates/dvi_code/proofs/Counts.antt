@@ -1,5 +1,5 @@
 -- Ten counts, one after the other.
-use Rattle.std.proofs.Common.{◌≡◌, ℕ, zero, suc, ◌-◌, ◌+◌, ◌≤◌, ◌<◌, List, [], ◌∷◌, ◌++◌, length, take, drop, Result, Ok, Err, refl, sym, ap, ◌∙◌, append_assoc, arith, ℤ}
+use Rattle.std.proofs.Common.{◌≡◌, ℕ, suc, ◌-◌, ◌+◌, ◌≤◌, ◌<◌, List, [], ◌∷◌, ◌++◌, Ok, Err, refl, sym, ap, ◌∙◌, append_assoc, arith, ℤ}
 use Rattle.std.proofs.lemmas.List.{append-nil}
 use Rattle.dvi_code.specs.declared.fault.DviKind.{DviKind}
 use Rattle.ts_base.specs.Agreement.{◌>>=◌}

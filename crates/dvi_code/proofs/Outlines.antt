@@ -1,15 +1,14 @@
 -- The outline of a structure is what one pass keeps of it.
-use Rattle.std.proofs.Common.{◌≡◌, ℕ, zero, suc, ◌+◌, ◌-◌, ◌%◌, ◌≤◌, ◌<◌, List, [], ◌∷◌, ◌++◌, length, drop, Result, Ok, Err, refl, sym, ap, subst, ◌∙◌, arith, ℤ, pos, Option, Some, None, Bool, true, false, cond, length-append}
-use Rattle.std.specs.Prelude.{is_some, nat_eq, nat_le, ◌&&◌, ◌||◌, if◌then◌else◌}
+use Rattle.std.proofs.Common.{◌≡◌, ℕ, zero, suc, ◌+◌, ◌%◌, List, [], ◌∷◌, ◌++◌, length, Result, Ok, Err, refl, sym, ap, ℤ, Option, Some, None, Bool, true, false, cond, length-append}
+use Rattle.std.specs.Prelude.{is_some, nat_eq, nat_le, ◌&&◌}
 use Rattle.ts_base.specs.Agreement.{◌>>=◌}
 use Rattle.dvi_code.specs.declared.fault.DviKind.{DviKind}
 use Rattle.dvi_code.specs.declared.fault.DviKind.TheVariants as kinds
 use Rattle.dvi_code.specs.declared.fault.DviBad.{DviBad}
 use Rattle.dvi_code.specs.declared.font.FontDef.{FontDef}
-use Rattle.dvi_code.specs.Fields.{Field}
 use Rattle.dvi_code.specs.Commands as c
 use Rattle.dvi_code.specs.Commands.{Command, Definition, command, font_defined}
-use Rattle.dvi_code.specs.Places.{Item, Placed, said, bad, fill, is_last, placed, placed_first}
+use Rattle.dvi_code.specs.Places.{Item, Placed, said, bad, fill, placed}
 use Rattle.dvi_code.specs.Structure as parts
 use Rattle.dvi_code.specs.Structure.{Inside, Shape, Phase, inside, selected, popped, closed, obeyed, at_start, at_gap, in_page, at_back, defined, placed_at, next_shape, walk, walked_on, walked, structure, answer, fault_at, filled, file_fonts}
 use Rattle.dvi_code.specs.Outline as o

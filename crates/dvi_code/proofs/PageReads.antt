@@ -1,8 +1,7 @@
 -- What the pass over the pages answers.
-use Rattle.std.proofs.Common.{◌≡◌, ℕ, ◌≤◌, ◌<◌, List, [], ◌∷◌, ◌++◌, length, drop, Result, Ok, Err, refl, sym, ap, ◌∙◌, append_assoc, Bool, true, false, cond}
+use Rattle.std.proofs.Common.{◌≡◌, ℕ, ◌≤◌, ◌<◌, List, [], ◌++◌, length, drop, Result, Ok, Err, refl, sym, ap, ◌∙◌, append_assoc, Bool, true, false}
 use Rattle.std.proofs.lemmas.List.{append-nil}
 use Rattle.ts_base.specs.Agreement.{◌>>=◌, AgreesFault}
-use Rattle.dvi_code.specs.declared.fault.DviKind.{DviKind}
 use Rattle.dvi_code.specs.declared.fault.DviBad.{DviBad}
 use Rattle.dvi_code.specs.declared.fault.DviFault.{DviFault}
 use Rattle.dvi_code.specs.declared.fault.DviFault.TheVariants as faults

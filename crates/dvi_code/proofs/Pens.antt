@@ -1,9 +1,8 @@
 -- What a pen keeps and what it means.
-use Rattle.std.proofs.Common.{◌≡◌, ℕ, List, [], ◌∷◌, ◌++◌, Result, Ok, Err, refl, sym, ap, ◌∙◌, ℤ, pos, Some, None, Bool, true, false, cond}
+use Rattle.std.proofs.Common.{◌≡◌, List, [], ◌∷◌, ◌++◌, Ok, Err, refl, ap, ◌∙◌, ℤ, Some, None, Bool, true, false, cond}
 use Rattle.std.specs.Prelude.{◌&&◌}
 use Rattle.std.proofs.lemmas.List.{append-nil}
 use Rattle.ts_geometry.specs.declared.measure.Point.{Point}
-use Rattle.dvi_code.specs.declared.fault.DviKind.{DviKind}
 use Rattle.ts_geometry.specs.Directions.{sp, point}
 use Rattle.dvi_code.specs.declared.fault.DviKind.TheVariants as kinds
 use Rattle.dvi_code.specs.declared.mark.Mark.{Mark}

@@ -1,6 +1,6 @@
 -- What was read at the front of bytes is read again whatever follows them.
 use Rattle.std.proofs.Common.{◌≡◌, ℕ, zero, suc, ◌-◌, ◌≤◌, List, [], ◌∷◌, ◌++◌, length, take, drop, Result, Ok, Err, refl, ap, arith, ℤ, pos, Bool, true, false, cond}
-use Rattle.std.specs.Prelude.{nat_lt, nat_eq, nat_le, ◌&&◌, if◌then◌else◌}
+use Rattle.std.specs.Prelude.{nat_lt, nat_eq, nat_le, if◌then◌else◌}
 use Rattle.std.proofs.lemmas.List.{length-append, take-append-le, drop-append-le}
 use Rattle.std.proofs.lemmas.Bool.{ltb-false, le-ltb}
 use Rattle.ts_base.specs.Agreement.{◌>>=◌}

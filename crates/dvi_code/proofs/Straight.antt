@@ -1,5 +1,5 @@
 -- Pages that are read straight on are those of the structure.
-use Rattle.std.proofs.Common.{◌≡◌, ℕ, zero, suc, ◌+◌, ◌-◌, List, [], ◌∷◌, ◌++◌, length, Result, Ok, Err, Option, Some, None, refl, sym, ap, subst, ◌∙◌, append_assoc, arith, ℤ, pos, Bool, true, false, cond, get_or, add-one}
+use Rattle.std.proofs.Common.{◌≡◌, ℕ, zero, suc, ◌+◌, ◌-◌, List, [], ◌∷◌, ◌++◌, length, Result, Ok, Err, Option, Some, None, refl, sym, ap, subst, ◌∙◌, append_assoc, ℤ, pos, Bool, true, false, cond, add-one}
 use Rattle.std.specs.Prelude.{nat_le, nat_eq, ◌&&◌, ◌%◌}
 use Rattle.std.specs.Ordering.{int_eq}
 use Rattle.std.proofs.lemmas.List.{append-nil}
@@ -15,8 +15,8 @@ use Rattle.dvi_code.specs.Commands.{Command, command, font_defined}
 use Rattle.dvi_code.specs.Places.{Item, Placed, said, bad, fill, is_last, placed, placed_first}
 use Rattle.dvi_code.specs.Structure as parts
 use Rattle.dvi_code.specs.Structure.{Inside, Shape, Sheet, Phase, font_of, inside, selected, closed, obeyed, at_start, at_gap, in_page, at_back, defined, defined_beside, placed_at, next_shape, walk, walked_on, walked, Walked, fault_at, answer, structure, start, file_fonts}
-use Rattle.dvi_code.specs.Pages.{Widths, Pen, clean, drawn, counted, all_drawn, page_from, page_of, pages_of, file_pages}
-use Rattle.dvi_code.specs.Straight.{Reader, reader, start_reader, read_on, page_ended, ends_pages, after_item, pages_on}
+use Rattle.dvi_code.specs.Pages.{Widths, Pen, clean, drawn, counted, all_drawn, page_from, pages_of, file_pages}
+use Rattle.dvi_code.specs.Straight.{Reader, reader, start_reader, read_on, page_ended, ends_pages, pages_on}
 use Rattle.dvi_code.proofs.Stable.{bound}
 
 -- ---- definitions that are there stay

@@ -1,5 +1,5 @@
 -- The value of bytes, the highest first.
-use Rattle.std.proofs.Common.{◌≡◌, ℕ, zero, suc, ◌+◌, ◌*◌, ◌^◌, ◌≤◌, ◌<◌, List, [], ◌∷◌, length, take, refl, arith, get_or, pow-suc}
+use Rattle.std.proofs.Common.{◌≡◌, ℕ, ◌+◌, ◌*◌, ◌≤◌, List, [], ◌∷◌, length, take, arith, get_or}
 use Rattle.byteorder.specs.Endian.{big_number}
 use Rattle.dvi_code.specs.Fields.{value_after}
 

@@ -6,10 +6,8 @@ use Rattle.ts_base.specs.Agreement.{◌>>=◌}
 use Rattle.dvi_code.specs.declared.fault.DviKind.{DviKind}
 use Rattle.dvi_code.specs.declared.fault.DviKind.TheVariants.{Truncated, Postamble}
 use Rattle.dvi_code.specs.declared.fault.DviBad.{DviBad}
-use Rattle.dvi_code.specs.Fields.{Field}
 use Rattle.dvi_code.specs.Commands.{Command, command}
-use Rattle.dvi_code.specs.Places.{Placed, said, bad, fill, is_last, placed, placed_first}
-use Rattle.dvi_code.specs.declared.font.FontDef.{FontDef}
+use Rattle.dvi_code.specs.Places.{Placed, said, bad, fill, is_last, placed}
 use Rattle.dvi_code.specs.Structure.{placed_at, filled, fill_checked, fault_at}
 use Rattle.dvi_code.specs.Outline.{Outline, outlined, outline_walk, start_outline, outline_fonts}
 use Rattle.ts_base.specs.Agreement.{AgreesFault}

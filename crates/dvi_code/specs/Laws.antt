@@ -1,12 +1,12 @@
 -- Laws of what DVI files mean.
-use Rattle.std.specs.Prelude.{◌≡◌, ℕ, ◌+◌, List, [], ◌∷◌, ◌++◌, length, Ok, ℤ, Some, Bool, false}
+use Rattle.std.specs.Prelude.{◌≡◌, ℕ, ◌+◌, List, [], ◌++◌, length, Ok, ℤ, Some, false}
 use Rattle.dvi_code.specs.declared.font.FontDef.{FontDef}
 use Rattle.dvi_code.specs.declared.page.DviPage.{DviPage}
 use Rattle.dvi_code.specs.Commands.{Command, command}
 use Rattle.dvi_code.specs.Places.{is_last}
-use Rattle.dvi_code.specs.Structure.{Shape, Inside, obeyed, inside, font_of, whole_sheets}
-use Rattle.dvi_code.specs.Pages.{Widths, Pen, drawn, file_pages, whole_pages}
-use Rattle.dvi_code.specs.Reading.{Spells, Leads, all_inside, Draws}
+use Rattle.dvi_code.specs.Structure.{Shape, obeyed, font_of}
+use Rattle.dvi_code.specs.Pages.{Widths, Pen, file_pages, whole_pages}
+use Rattle.dvi_code.specs.Reading.{Spells, Leads, Draws}
 
 -- the whole pages of a prefix of a file that has pages are the first of these
 abbrev pub WholePagesAreFirst : Type 0

@@ -1,5 +1,5 @@
 -- The pages of a file whose structure is right, read straight on with the definitions of the whole file: what a second pass does.
-use Rattle.std.specs.Prelude.{ℕ, List, [], ◌∷◌, ◌++◌, Result, Ok, Err, Option, Some, None, ℤ, pos, Bool, true, false, map, if◌then◌else◌, ◌&&◌, replicate}
+use Rattle.std.specs.Prelude.{ℕ, List, [], ◌∷◌, ◌++◌, Result, Ok, Err, Option, Some, None, ℤ, pos, Bool, true, false, if◌then◌else◌, ◌&&◌, replicate}
 use Rattle.ts_base.specs.Agreement.{◌>>=◌}
 use Rattle.dvi_code.specs.declared.fault.DviKind.{DviKind}
 use Rattle.dvi_code.specs.declared.fault.DviKind.TheVariants as kinds

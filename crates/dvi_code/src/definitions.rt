@@ -58,7 +58,8 @@ fn is_same(font: &FontDef, numbers: Numbers, name: &[u8]) -> bool
 // file, or the size isn't 1 to 2^23 - 1.
 #[tactic(auto, unfolding(crate::specs::Structure::is_sound_font))]
 fn sound_name(alloc: Global, numbers: Numbers, name: &[u8]) -> Result<FileName, Refusal>
-    ensures { Agrees (λ n. n) refusal_cause result (if is_sound_font (named_font numbers name.now) then Ok name.now else Err (Refusal.Kind DviKind.FontDef)) }
+    ensures { Agrees (λ n. n) refusal_cause result (if is_sound_font (named_font numbers name.now)
+        then Ok name.now else Err (Refusal.Kind DviKind.FontDef)) }
 {
     if numbers.size < 1 || 8_388_608 <= numbers.size {
         return Err(Refusal::Kind(DviKind::FontDef));
@@ -95,7 +96,8 @@ fn add(defined: &mut Vec<FontDef>, font: FontDef) -> Result<usize, Refusal>
 }
 
 fn note(places: &mut HashMap<i32, usize>, number: i32, place: usize) -> Result<(), Refusal>
-    ensures ok { OnOk result ((n : ℤ) → get int_eq places.new n ≡ (if int_eq number n then Some place else get int_eq places.old n)) }
+    ensures ok { OnOk result ((n : ℤ) → get int_eq places.new n ≡ (if int_eq number n then Some
+        place else get int_eq places.old n)) }
     ensures err { IfErr result (λ e. e ≡ Refusal.NoMemory) }
 {
     match places.insert(number, place) {
@@ -155,7 +157,8 @@ impl Fonts {
     // Whether the definition that the number has is this one.
     #[tactic(auto, using(crate::proofs::FontPlacing::found, crate::proofs::FontPlacing::compared_at))]
     fn compared(&self, numbers: Numbers, name: &[u8]) -> Option<bool>
-        ensures { result ≡ compared (named_font numbers name.now) (font_of self.now numbers.number) }
+        ensures { result ≡ compared (named_font numbers name.now) (font_of self.now
+            numbers.number) }
     {
         let place = self.place(numbers.number)?;
         let font = self.get(place)?;
@@ -165,7 +168,8 @@ impl Fonts {
     /// These and one more, unless its number is there with the same definition.
     #[tactic(auto, using(crate::proofs::FontPlacing::define_same, crate::proofs::FontPlacing::define_other, crate::proofs::FontPlacing::define_new, crate::proofs::FontPlacing::compared_none))]
     pub(crate) fn define(self, numbers: Numbers, name: &[u8]) -> Result<Fonts, Refusal>
-        ensures { Agrees (λ f. f) refusal_cause result (refused (defined self (named_font numbers name.now))) }
+        ensures { Agrees (λ f. f) refusal_cause result (refused (defined self (named_font numbers
+            name.now))) }
     {
         match self.compared(numbers, name) {
             Some(true) => Ok(self),

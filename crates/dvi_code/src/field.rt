@@ -103,7 +103,8 @@ pub(crate) fn font_number_at(bytes: &[u8], at: usize, len: usize) -> Result<(i32
     requires at { at ≤ length bytes.now }
     requires some { 1 ≤ len }
     requires few { len ≤ 4 }
-    ensures exact { Gives (left_at bytes.now (λ n. n)) result (font_number len (drop at bytes.now)) }
+    ensures exact { Gives (left_at bytes.now (λ n. n)) result (font_number len (drop at
+        bytes.now)) }
     ensures on { IfOk result (λ x. at ≤ x.1) }
     ensures within { IfOk result (λ x. x.1 ≤ length bytes.now) }
 {
@@ -117,7 +118,8 @@ pub(crate) fn font_number_at(bytes: &[u8], at: usize, len: usize) -> Result<(i32
 /// A text of so many bytes.
 pub(crate) fn text_at(bytes: &[u8], at: usize, len: usize) -> Result<(Part, usize), DviKind>
     requires { at ≤ length bytes.now }
-    ensures exact { Gives (left_at bytes.now (text_of bytes.now)) result (text len (drop at bytes.now)) }
+    ensures exact { Gives (left_at bytes.now (text_of bytes.now)) result (text len (drop at
+        bytes.now)) }
     ensures on { IfOk result (λ x. at ≤ x.1) }
     ensures within { IfOk result (λ x. x.1 ≤ length bytes.now) }
     ensures order { IfOk result (λ x. x.0.start ≤ x.0.end) }

@@ -12,7 +12,8 @@ use std::alloc::AllocError;
 #[tactic(auto, using(crate::proofs::Numbers::signed_put))]
 pub fn put_signed(out: &mut Vec<u8>, number: i32) -> Result<(), AllocError>
     ensures bytes { OnOk result (out.new.items ≡ out.old.items ++ signed_bytes number) }
-    ensures read { OnOk result ((rest : List ℕ) → signed 4 (drop (length out.old.items) out.new.items ++ rest) ≡ Ok (number, rest)) }
+    ensures read { OnOk result ((rest : List ℕ) → signed 4 (drop (length out.old.items)
+        out.new.items ++ rest) ≡ Ok (number, rest)) }
     ensures refused { OnErr result (out.new.items ≡ out.old.items) }
 {
     let mut bytes = [0; 4];
@@ -25,7 +26,8 @@ pub fn put_signed(out: &mut Vec<u8>, number: i32) -> Result<(), AllocError>
 #[tactic(auto, using(crate::proofs::Numbers::unsigned_put))]
 pub fn put_unsigned(out: &mut Vec<u8>, number: u32) -> Result<(), AllocError>
     ensures bytes { OnOk result (out.new.items ≡ out.old.items ++ big_bytes 4 number) }
-    ensures read { OnOk result ((rest : List ℕ) → unsigned 4 (drop (length out.old.items) out.new.items ++ rest) ≡ Ok (number, rest)) }
+    ensures read { OnOk result ((rest : List ℕ) → unsigned 4 (drop (length out.old.items)
+        out.new.items ++ rest) ≡ Ok (number, rest)) }
     ensures refused { OnErr result (out.new.items ≡ out.old.items) }
 {
     let mut bytes = [0; 4];
@@ -38,7 +40,8 @@ pub fn put_unsigned(out: &mut Vec<u8>, number: u32) -> Result<(), AllocError>
 #[tactic(auto, using(crate::proofs::Numbers::short_put))]
 pub fn put_short(out: &mut Vec<u8>, number: u16) -> Result<(), AllocError>
     ensures bytes { OnOk result (out.new.items ≡ out.old.items ++ big_bytes 2 number) }
-    ensures read { OnOk result ((rest : List ℕ) → unsigned 2 (drop (length out.old.items) out.new.items ++ rest) ≡ Ok (number, rest)) }
+    ensures read { OnOk result ((rest : List ℕ) → unsigned 2 (drop (length out.old.items)
+        out.new.items ++ rest) ≡ Ok (number, rest)) }
     ensures refused { OnErr result (out.new.items ≡ out.old.items) }
 {
     let mut bytes = [0; 2];

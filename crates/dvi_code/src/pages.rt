@@ -61,8 +61,16 @@ impl Reader {
 
     // The page that has ended.
     fn page(&mut self) -> DviPage
-        ensures page { (fonts : List FontDef) → result ≡ record { counts = self.old.counts; marks = self.old.pen.marks } }
-        ensures clean { (fonts : List FontDef) → reader_of fonts self.new ≡ record { counts = self.old.counts; pen = start_reader.pen } }
+        ensures page { (fonts : List FontDef) → result ≡ record {
+          counts = self.old.counts;
+          marks
+              = self.old.pen.marks;
+        } }
+        ensures clean { (fonts : List FontDef) → reader_of fonts self.new ≡ record {
+          counts =
+              self.old.counts;
+          pen = start_reader.pen;
+        } }
     {
         let pen = mem::replace(&mut self.pen, Pen::new(self.alloc));
         DviPage {
@@ -80,8 +88,11 @@ impl Reader {
         at: usize,
         command: &Command,
     ) -> Result<Option<DviPage>, DviFault>
-        ensures exact { (bytes : List ℕ) → Agrees (λ page. reader_of fonts.now self.new) dvi_cause result (faulted (placed_at at (read_on (W.width_of widths.now) fonts.now (reader_of fonts.now self.old) (meant bytes command.now)))) }
-        ensures page { IfOk result (λ page. (bytes : List ℕ) → list_of page ≡ page_ended (reader_of fonts.now self.old) (meant bytes command.now)) }
+        ensures exact { (bytes : List ℕ) → Agrees (λ page. reader_of fonts.now self.new) dvi_cause
+            result (faulted (placed_at at (read_on (W.width_of widths.now) fonts.now (reader_of
+            fonts.now self.old) (meant bytes command.now)))) }
+        ensures page { IfOk result (λ page. (bytes : List ℕ) → list_of page ≡ page_ended
+            (reader_of fonts.now self.old) (meant bytes command.now)) }
     {
         match *command {
             Command::Bop { counts, .. } => {
@@ -106,7 +117,8 @@ fn pages_with<W: Widths>(
     fonts: &Fonts,
     widths: &W,
 ) -> Result<DviPages, DviFault>
-    ensures { Agrees (λ p. p) dvi_cause result (faulted (pages_on (W.width_of widths.now) fonts.now start_reader (placed 0 0 bytes.now))) }
+    ensures { Agrees (λ p. p) dvi_cause result (faulted (pages_on (W.width_of widths.now)
+        fonts.now start_reader (placed 0 0 bytes.now))) }
 {
     let mut pages = DviPages::new(alloc);
     let mut reader = Reader::new(alloc);
@@ -127,7 +139,8 @@ fn pages_with<W: Widths>(
 /// the first: those of the structure before `Width` and `Range`.
 #[tactic(auto, using(crate::proofs::Straight::pages_are, crate::proofs::Straight::no_pages, crate::proofs::Outlines::fonts_are))]
 pub fn read_pages<W: Widths>(alloc: Global, bytes: &[u8], widths: &W) -> Result<DviPages, DviFault>
-    ensures { Agrees (λ p. p) dvi_cause result (faulted (file_pages (W.width_of widths.now) bytes.now)) }
+    ensures { Agrees (λ p. p) dvi_cause result (faulted (file_pages (W.width_of widths.now)
+        bytes.now)) }
 {
     match checked(alloc, bytes) {
         Ok(fonts) => pages_with(alloc, bytes, &fonts, widths),

@@ -91,7 +91,8 @@ fn near(at: Point) -> Result<Point, Refusal>
 // The point so far along a direction, and so far across it, unless a coordinate passes 2^31 - 1.
 #[tactic(auto, using(crate::proofs::Pens::near_is))]
 fn reached(at: Point, dir: Dir, along: Sp, across: Sp) -> Result<Point, Refusal>
-    ensures { Agrees (λ p. p) refusal_cause result (refused (near_point (step at dir along across))) }
+    ensures { Agrees (λ p. p) refusal_cause result (refused (near_point (step at dir along
+        across))) }
 {
     match dir {
         Dir::Yoko => point_of(plus(at.x, along), plus(at.y, across)),
@@ -122,7 +123,9 @@ impl Pen {
 
     // From a spot so far along and across.
     fn step(&mut self, spot: Spot, along: Sp, across: Sp) -> Result<(), Refusal>
-        ensures { (fonts : List FontDef) → Agrees (λ u. pen_of fonts self.new) refusal_cause result (refused (moved (pen_of fonts self.old) (stepped (spot_of spot) along.0 across.0) [])) }
+        ensures { (fonts : List FontDef) → Agrees (λ u. pen_of fonts self.new) refusal_cause
+            result (refused (moved (pen_of fonts self.old) (stepped (spot_of spot) along.0
+            across.0) [])) }
     {
         match reached(spot.at, spot.dir, along, across) {
             Ok(at) => {
@@ -135,7 +138,12 @@ impl Pen {
 
     // With a mark more, if there is one, and then at a point.
     fn keep(&mut self, mark: Option<Mark>, at: Point) -> Result<(), Refusal>
-        ensures ok { OnOk result ((fonts : List FontDef) → pen_of fonts self.new ≡ record (pen_of fonts self.old) { spot = record (spot_of self.old.spot) { at = at }; marks = self.old.marks ++ marks_of mark }) }
+        ensures ok { OnOk result ((fonts : List FontDef) → pen_of fonts self.new ≡ record (pen_of
+            fonts self.old) {
+              spot = record (spot_of self.old.spot) { at = at };
+              marks =
+                  self.old.marks ++ marks_of mark;
+            }) }
         ensures err { IfErr result (λ e. e ≡ Refusal.NoMemory) }
     {
         if let Some(mark) = mark {
@@ -149,7 +157,9 @@ impl Pen {
 
     // With a mark more, if there is one, and then so far along.
     fn mark(&mut self, mark: Option<Mark>, along: Sp) -> Result<(), Refusal>
-        ensures { (fonts : List FontDef) → Agrees (λ u. pen_of fonts self.new) refusal_cause result (refused (moved (pen_of fonts self.old) (stepped (spot_of self.old.spot) along.0 (pos 0)) (marks_of mark))) }
+        ensures { (fonts : List FontDef) → Agrees (λ u. pen_of fonts self.new) refusal_cause
+            result (refused (moved (pen_of fonts self.old) (stepped (spot_of self.old.spot)
+            along.0 (pos 0)) (marks_of mark))) }
     {
         match reached(self.spot.at, self.spot.dir, along, Sp(0)) {
             Ok(at) => self.keep(mark, at),
@@ -159,7 +169,9 @@ impl Pen {
 
     // With a mark more, if there is one.
     fn mark_here(&mut self, mark: Option<Mark>) -> Result<(), Refusal>
-        ensures { (fonts : List FontDef) → Agrees (λ u. pen_of fonts self.new) refusal_cause result (refused (moved (pen_of fonts self.old) (spot_of self.old.spot) (marks_of mark))) }
+        ensures { (fonts : List FontDef) → Agrees (λ u. pen_of fonts self.new) refusal_cause
+            result (refused (moved (pen_of fonts self.old) (spot_of self.old.spot) (marks_of
+            mark))) }
     {
         match near(self.spot.at) {
             Ok(at) => self.keep(mark, at),
@@ -201,7 +213,8 @@ impl Pen {
 
     #[tactic(auto, using(crate::proofs::Pens::saved_push))]
     fn push(&mut self) -> Result<(), Refusal>
-        ensures { (fonts : List FontDef) → Agrees (λ u. pen_of fonts self.new) refusal_cause result (refused (pushed (pen_of fonts self.old))) }
+        ensures { (fonts : List FontDef) → Agrees (λ u. pen_of fonts self.new) refusal_cause
+            result (refused (pushed (pen_of fonts self.old))) }
     {
         match self.saved.push(self.spot) {
             Ok(()) => Ok(()),
@@ -211,7 +224,8 @@ impl Pen {
 
     #[tactic(auto, using(crate::proofs::Pens::back_none, crate::proofs::Pens::back_some))]
     fn pop(&mut self) -> Result<(), Refusal>
-        ensures { (fonts : List FontDef) → Agrees (λ u. pen_of fonts self.new) refusal_cause result (refused (back_to (pen_of fonts self.old) (saved_of self.old.saved.items))) }
+        ensures { (fonts : List FontDef) → Agrees (λ u. pen_of fonts self.new) refusal_cause
+            result (refused (back_to (pen_of fonts self.old) (saved_of self.old.saved.items))) }
     {
         match self.saved.pop() {
             Some(spot) => {
@@ -223,7 +237,9 @@ impl Pen {
     }
 
     fn set<W: Widths>(&mut self, fonts: &Fonts, widths: &W, code: u32) -> Result<(), Refusal>
-        ensures { Agrees (λ u. pen_of fonts.now self.new) refusal_cause result (refused (set_by (W.width_of widths.now) (pen_of fonts.now self.old) code (at_place fonts.now self.old.chosen))) }
+        ensures { Agrees (λ u. pen_of fonts.now self.new) refusal_cause result (refused (set_by
+            (W.width_of widths.now) (pen_of fonts.now self.old) code (at_place fonts.now
+            self.old.chosen))) }
     {
         let Some(font) = self.font(fonts) else {
             return Err(Refusal::Kind(DviKind::FontUndefined));
@@ -236,7 +252,9 @@ impl Pen {
     }
 
     fn put<W: Widths>(&mut self, fonts: &Fonts, widths: &W, code: u32) -> Result<(), Refusal>
-        ensures { Agrees (λ u. pen_of fonts.now self.new) refusal_cause result (refused (put_by (W.width_of widths.now) (pen_of fonts.now self.old) code (at_place fonts.now self.old.chosen))) }
+        ensures { Agrees (λ u. pen_of fonts.now self.new) refusal_cause result (refused (put_by
+            (W.width_of widths.now) (pen_of fonts.now self.old) code (at_place fonts.now
+            self.old.chosen))) }
     {
         let Some(font) = self.font(fonts) else {
             return Err(Refusal::Kind(DviKind::FontUndefined));
@@ -249,7 +267,8 @@ impl Pen {
     }
 
     fn turn(&mut self, dir: u8) -> Result<(), Refusal>
-        ensures { (fonts : List FontDef) → Agrees (λ u. pen_of fonts self.new) refusal_cause result (refused (turned_to (pen_of fonts self.old) (dir_of dir))) }
+        ensures { (fonts : List FontDef) → Agrees (λ u. pen_of fonts self.new) refusal_cause
+            result (refused (turned_to (pen_of fonts self.old) (dir_of dir))) }
     {
         self.spot.dir = match dir {
             0 => Dir::Yoko,
@@ -261,13 +280,15 @@ impl Pen {
     }
 
     fn along(&mut self, spot: Spot, n: Sp) -> Result<(), Refusal>
-        ensures { (fonts : List FontDef) → Agrees (λ u. pen_of fonts self.new) refusal_cause result (refused (along (pen_of fonts self.old) (spot_of spot) n.0)) }
+        ensures { (fonts : List FontDef) → Agrees (λ u. pen_of fonts self.new) refusal_cause
+            result (refused (along (pen_of fonts self.old) (spot_of spot) n.0)) }
     {
         self.step(spot, n, Sp(0))
     }
 
     fn across(&mut self, spot: Spot, n: Sp) -> Result<(), Refusal>
-        ensures { (fonts : List FontDef) → Agrees (λ u. pen_of fonts self.new) refusal_cause result (refused (across (pen_of fonts self.old) (spot_of spot) n.0)) }
+        ensures { (fonts : List FontDef) → Agrees (λ u. pen_of fonts self.new) refusal_cause
+            result (refused (across (pen_of fonts self.old) (spot_of spot) n.0)) }
     {
         self.step(spot, Sp(0), n)
     }
@@ -276,7 +297,9 @@ impl Pen {
     #[tactic(auto, unfolding(crate::specs::Pages::drawn))]
     fn go_right(&mut self, command: &Command) -> Result<(), Refusal>
         requires { moves_right command.now ≡ true }
-        ensures { (widths : FontDef → ℕ → Option Sp) (fonts : List FontDef) (bytes : List ℕ) → Agrees (λ u. pen_of fonts self.new) refusal_cause result (refused (drawn widths fonts (pen_of fonts self.old) (meant bytes command.now))) }
+        ensures { (widths : FontDef → ℕ → Option Sp) (fonts : List FontDef) (bytes : List ℕ) →
+            Agrees (λ u. pen_of fonts self.new) refusal_cause result (refused (drawn widths fonts
+            (pen_of fonts self.old) (meant bytes command.now))) }
     {
         let spot = self.spot;
         match *command {
@@ -299,7 +322,9 @@ impl Pen {
     #[tactic(auto, unfolding(crate::specs::Pages::drawn))]
     fn go_down(&mut self, command: &Command) -> Result<(), Refusal>
         requires { moves_down command.now ≡ true }
-        ensures { (widths : FontDef → ℕ → Option Sp) (fonts : List FontDef) (bytes : List ℕ) → Agrees (λ u. pen_of fonts self.new) refusal_cause result (refused (drawn widths fonts (pen_of fonts self.old) (meant bytes command.now))) }
+        ensures { (widths : FontDef → ℕ → Option Sp) (fonts : List FontDef) (bytes : List ℕ) →
+            Agrees (λ u. pen_of fonts self.new) refusal_cause result (refused (drawn widths fonts
+            (pen_of fonts self.old) (meant bytes command.now))) }
     {
         let spot = self.spot;
         match *command {
@@ -326,7 +351,9 @@ impl Pen {
         widths: &W,
         command: &Command,
     ) -> Result<(), Refusal>
-        ensures { (bytes : List ℕ) → Agrees (λ u. pen_of fonts.now self.new) refusal_cause result (refused (drawn (W.width_of widths.now) fonts.now (pen_of fonts.now self.old) (meant bytes command.now))) }
+        ensures { (bytes : List ℕ) → Agrees (λ u. pen_of fonts.now self.new) refusal_cause result
+            (refused (drawn (W.width_of widths.now) fonts.now (pen_of fonts.now self.old) (meant
+            bytes command.now))) }
     {
         match *command {
             Command::Set(code) => self.set(fonts, widths, code),

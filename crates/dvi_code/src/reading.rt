@@ -15,7 +15,8 @@ use crate::field::{byte_at, counts_at, font_number_at, half_at, number_at, signe
 #[tactic(auto, unfolding(crate::specs::Commands::mark_after))]
 fn mark(op: u8, bytes: &[u8], at: usize) -> Result<(Command, usize), DviKind>
     requires { at ≤ length bytes.now }
-    ensures exact { Gives (left_at bytes.now (meant bytes.now)) result (mark_after op (drop at bytes.now)) }
+    ensures exact { Gives (left_at bytes.now (meant bytes.now)) result (mark_after op (drop at
+        bytes.now)) }
     ensures on { IfOk result (λ x. at ≤ x.1) }
     ensures within { IfOk result (λ x. x.1 ≤ length bytes.now) }
     ensures parts { IfOk result (λ x. HasPartsIn (length bytes.now) x.0) }
@@ -42,7 +43,8 @@ fn mark(op: u8, bytes: &[u8], at: usize) -> Result<(Command, usize), DviKind>
 #[tactic(auto, unfolding(crate::specs::Commands::group_after))]
 fn group(op: u8, bytes: &[u8], at: usize) -> Result<(Command, usize), DviKind>
     requires { at ≤ length bytes.now }
-    ensures exact { Gives (left_at bytes.now (meant bytes.now)) result (group_after op (drop at bytes.now)) }
+    ensures exact { Gives (left_at bytes.now (meant bytes.now)) result (group_after op (drop at
+        bytes.now)) }
     ensures on { IfOk result (λ x. at ≤ x.1) }
     ensures within { IfOk result (λ x. x.1 ≤ length bytes.now) }
     ensures parts { IfOk result (λ x. HasPartsIn (length bytes.now) x.0) }
@@ -67,7 +69,8 @@ fn right(op: u8, bytes: &[u8], at: usize) -> Result<(Command, usize), DviKind>
     requires at { at ≤ length bytes.now }
     requires low { 143 ≤ op }
     requires high { op ≤ 156 }
-    ensures exact { Gives (left_at bytes.now (meant bytes.now)) result (right_after op (drop at bytes.now)) }
+    ensures exact { Gives (left_at bytes.now (meant bytes.now)) result (right_after op (drop at
+        bytes.now)) }
     ensures on { IfOk result (λ x. at ≤ x.1) }
     ensures within { IfOk result (λ x. x.1 ≤ length bytes.now) }
     ensures parts { IfOk result (λ x. HasPartsIn (length bytes.now) x.0) }
@@ -93,7 +96,8 @@ fn down(op: u8, bytes: &[u8], at: usize) -> Result<(Command, usize), DviKind>
     requires at { at ≤ length bytes.now }
     requires low { 157 ≤ op }
     requires high { op ≤ 170 }
-    ensures exact { Gives (left_at bytes.now (meant bytes.now)) result (down_after op (drop at bytes.now)) }
+    ensures exact { Gives (left_at bytes.now (meant bytes.now)) result (down_after op (drop at
+        bytes.now)) }
     ensures on { IfOk result (λ x. at ≤ x.1) }
     ensures within { IfOk result (λ x. x.1 ≤ length bytes.now) }
     ensures parts { IfOk result (λ x. HasPartsIn (length bytes.now) x.0) }
@@ -117,7 +121,8 @@ fn down(op: u8, bytes: &[u8], at: usize) -> Result<(Command, usize), DviKind>
 #[tactic(auto, unfolding(crate::specs::Commands::font_def_after))]
 fn font_def(number: i32, bytes: &[u8], at: usize) -> Result<(Command, usize), DviKind>
     requires { at ≤ length bytes.now }
-    ensures exact { Gives (left_at bytes.now (meant bytes.now)) result (font_def_after number (drop at bytes.now)) }
+    ensures exact { Gives (left_at bytes.now (meant bytes.now)) result (font_def_after number
+        (drop at bytes.now)) }
     ensures on { IfOk result (λ x. at ≤ x.1) }
     ensures within { IfOk result (λ x. x.1 ≤ length bytes.now) }
     ensures parts { IfOk result (λ x. HasPartsIn (length bytes.now) x.0) }
@@ -147,7 +152,8 @@ fn font(op: u8, bytes: &[u8], at: usize) -> Result<(Command, usize), DviKind>
     requires at { at ≤ length bytes.now }
     requires low { 171 ≤ op }
     requires high { op ≤ 246 }
-    ensures exact { Gives (left_at bytes.now (meant bytes.now)) result (font_after op (drop at bytes.now)) }
+    ensures exact { Gives (left_at bytes.now (meant bytes.now)) result (font_after op (drop at
+        bytes.now)) }
     ensures on { IfOk result (λ x. at ≤ x.1) }
     ensures within { IfOk result (λ x. x.1 ≤ length bytes.now) }
     ensures parts { IfOk result (λ x. HasPartsIn (length bytes.now) x.0) }
@@ -170,7 +176,8 @@ fn font(op: u8, bytes: &[u8], at: usize) -> Result<(Command, usize), DviKind>
 #[tactic(auto, unfolding(crate::specs::Commands::pre_after))]
 fn pre(bytes: &[u8], at: usize) -> Result<(Command, usize), DviKind>
     requires { at ≤ length bytes.now }
-    ensures exact { Gives (left_at bytes.now (meant bytes.now)) result (pre_after (drop at bytes.now)) }
+    ensures exact { Gives (left_at bytes.now (meant bytes.now)) result (pre_after (drop at
+        bytes.now)) }
     ensures on { IfOk result (λ x. at ≤ x.1) }
     ensures within { IfOk result (λ x. x.1 ≤ length bytes.now) }
     ensures parts { IfOk result (λ x. HasPartsIn (length bytes.now) x.0) }
@@ -196,7 +203,8 @@ fn pre(bytes: &[u8], at: usize) -> Result<(Command, usize), DviKind>
 #[tactic(auto, unfolding(crate::specs::Commands::post_after))]
 fn post(bytes: &[u8], at: usize) -> Result<(Command, usize), DviKind>
     requires { at ≤ length bytes.now }
-    ensures exact { Gives (left_at bytes.now (meant bytes.now)) result (post_after (drop at bytes.now)) }
+    ensures exact { Gives (left_at bytes.now (meant bytes.now)) result (post_after (drop at
+        bytes.now)) }
     ensures on { IfOk result (λ x. at ≤ x.1) }
     ensures within { IfOk result (λ x. x.1 ≤ length bytes.now) }
     ensures parts { IfOk result (λ x. HasPartsIn (length bytes.now) x.0) }
@@ -227,7 +235,8 @@ fn post(bytes: &[u8], at: usize) -> Result<(Command, usize), DviKind>
 #[tactic(auto, unfolding(crate::specs::Commands::file_after))]
 fn file(op: u8, bytes: &[u8], at: usize) -> Result<(Command, usize), DviKind>
     requires { at ≤ length bytes.now }
-    ensures exact { Gives (left_at bytes.now (meant bytes.now)) result (file_after op (drop at bytes.now)) }
+    ensures exact { Gives (left_at bytes.now (meant bytes.now)) result (file_after op (drop at
+        bytes.now)) }
     ensures on { IfOk result (λ x. at ≤ x.1) }
     ensures within { IfOk result (λ x. x.1 ≤ length bytes.now) }
     ensures parts { IfOk result (λ x. HasPartsIn (length bytes.now) x.0) }
@@ -251,7 +260,8 @@ fn file(op: u8, bytes: &[u8], at: usize) -> Result<(Command, usize), DviKind>
 #[tactic(auto, unfolding(crate::specs::Commands::command_after))]
 fn command_of(op: u8, bytes: &[u8], at: usize) -> Result<(Command, usize), DviKind>
     requires { at ≤ length bytes.now }
-    ensures exact { Gives (left_at bytes.now (meant bytes.now)) result (command_after op (drop at bytes.now)) }
+    ensures exact { Gives (left_at bytes.now (meant bytes.now)) result (command_after op (drop at
+        bytes.now)) }
     ensures on { IfOk result (λ x. at ≤ x.1) }
     ensures within { IfOk result (λ x. x.1 ≤ length bytes.now) }
     ensures parts { IfOk result (λ x. HasPartsIn (length bytes.now) x.0) }
@@ -274,7 +284,8 @@ fn command_of(op: u8, bytes: &[u8], at: usize) -> Result<(Command, usize), DviKi
 #[tactic(auto, unfolding(crate::specs::Commands::command))]
 fn command_at(bytes: &[u8], at: usize) -> Result<(Command, usize), DviKind>
     requires { at ≤ length bytes.now }
-    ensures exact { Gives (left_at bytes.now (meant bytes.now)) result (command (drop at bytes.now)) }
+    ensures exact { Gives (left_at bytes.now (meant bytes.now)) result (command (drop at
+        bytes.now)) }
     ensures on { IfOk result (λ x. at < x.1) }
     ensures within { IfOk result (λ x. x.1 ≤ length bytes.now) }
     ensures parts { IfOk result (λ x. HasPartsIn (length bytes.now) x.0) }
@@ -302,7 +313,8 @@ pub fn next_command(bytes: &[u8], at: usize) -> Result<(Command, usize), DviBad>
 /// The same, with the fault as a reader answers it.
 pub(crate) fn command_from(bytes: &[u8], at: usize) -> Result<(Command, usize), DviFault>
     requires { at ≤ length bytes.now }
-    ensures exact { Agrees (left_at bytes.now (meant bytes.now)) dvi_cause result (faulted (placed_at at (command (drop at bytes.now)))) }
+    ensures exact { Agrees (left_at bytes.now (meant bytes.now)) dvi_cause result (faulted
+        (placed_at at (command (drop at bytes.now)))) }
     ensures on { IfOk result (λ x. at < x.1) }
     ensures within { IfOk result (λ x. x.1 ≤ length bytes.now) }
     ensures parts { IfOk result (λ x. HasPartsIn (length bytes.now) x.0) }

@@ -63,7 +63,8 @@ impl Inside {
 
     #[tactic(auto, using(crate::proofs::Outlines::selected_by))]
     fn selected(self, fonts: &Fonts, number: i32) -> Result<Inside, DviKind>
-        ensures exact { Gives inside_of result (selected (inside_of self) (font_of fonts.now number)) }
+        ensures exact { Gives inside_of result (selected (inside_of self) (font_of fonts.now
+            number)) }
         ensures depth { IfOk result (λ i. i.depth ≤ self.depth) }
     {
         if !fonts.has(number) {
@@ -101,7 +102,8 @@ impl Inside {
     #[tactic(auto, unfolding(crate::specs::Structure::inside))]
     fn next(self, fonts: &Fonts, command: &Command) -> Result<Inside, DviKind>
         requires { self.depth < 2 ^ 64 - 1 }
-        ensures exact { (bytes : List ℕ) → Gives inside_of result (inside fonts.now (inside_of self) (meant bytes command.now)) }
+        ensures exact { (bytes : List ℕ) → Gives inside_of result (inside fonts.now (inside_of
+            self) (meant bytes command.now)) }
         ensures depth { IfOk result (λ i. i.depth ≤ self.depth + 1) }
     {
         match *command {
@@ -153,7 +155,8 @@ impl Standing {
 
     #[tactic(auto, unfolding(crate::specs::Outline::stood_ahead))]
     fn after_start(self, command: &Command) -> Result<Standing, DviKind>
-        ensures exact { (bytes : List ℕ) → Gives standing_of result (stood_ahead (standing_of self) (meant bytes command.now)) }
+        ensures exact { (bytes : List ℕ) → Gives standing_of result (stood_ahead (standing_of
+            self) (meant bytes command.now)) }
         ensures pages { IfOk result (λ st. st.pages ≤ self.pages) }
         ensures depth { IfOk result (λ st. depth_of st.stage ≡ 0) }
     {
@@ -172,7 +175,9 @@ impl Standing {
     }
 
     fn begins(self, at: usize, back: i32) -> Result<Standing, DviKind>
-        ensures exact { Gives standing_of result (if int_eq back (pointer_of self.last) then Ok (record { last = pos at; pages = self.pages; stage = within fresh }) else Err DviKind.BackPointer) }
+        ensures exact { Gives standing_of result (if int_eq back (pointer_of self.last) then Ok
+            (record { last = pos at; pages = self.pages; stage = within fresh }) else Err
+            DviKind.BackPointer) }
         ensures pages { IfOk result (λ st. st.pages ≤ self.pages) }
         ensures depth { IfOk result (λ st. depth_of st.stage ≡ 0) }
     {
@@ -192,7 +197,8 @@ impl Standing {
     #[tactic(auto, unfolding(crate::specs::Outline::stood_between))]
     fn after_gap(self, at: usize, command: &Command) -> Result<Standing, DviKind>
         requires { depth_of self.stage ≡ 0 }
-        ensures exact { (bytes : List ℕ) → Gives standing_of result (stood_between (standing_of self) at (meant bytes command.now)) }
+        ensures exact { (bytes : List ℕ) → Gives standing_of result (stood_between (standing_of
+            self) at (meant bytes command.now)) }
         ensures pages { IfOk result (λ st. st.pages ≤ self.pages) }
         ensures depth { IfOk result (λ st. depth_of st.stage ≡ 0) }
     {
@@ -228,7 +234,8 @@ impl Standing {
     fn in_page(self, fonts: &Fonts, inside: Inside, command: &Command) -> Result<Standing, DviKind>
         requires pages { self.pages < 2 ^ 64 - 1 }
         requires depth { inside.depth < 2 ^ 64 - 1 }
-        ensures exact { (bytes : List ℕ) → Gives standing_of result (stood_within fonts.now (standing_of self) (inside_of inside) (meant bytes command.now)) }
+        ensures exact { (bytes : List ℕ) → Gives standing_of result (stood_within fonts.now
+            (standing_of self) (inside_of inside) (meant bytes command.now)) }
         ensures pages { IfOk result (λ st. st.pages ≤ self.pages + 1) }
         ensures depth { IfOk result (λ st. depth_of st.stage ≤ inside.depth + 1) }
     {
@@ -242,7 +249,8 @@ impl Standing {
     #[tactic(auto, unfolding(crate::specs::Outline::stood_behind))]
     fn after_post(self, post: usize, command: &Command) -> Result<Standing, DviKind>
         requires { depth_of self.stage ≡ 0 }
-        ensures exact { (bytes : List ℕ) → Gives standing_of result (stood_behind (standing_of self) post (meant bytes command.now)) }
+        ensures exact { (bytes : List ℕ) → Gives standing_of result (stood_behind (standing_of
+            self) post (meant bytes command.now)) }
         ensures pages { IfOk result (λ st. st.pages ≤ self.pages) }
         ensures depth { IfOk result (λ st. depth_of st.stage ≡ 0) }
     {
@@ -266,7 +274,8 @@ impl Standing {
     ) -> Result<Standing, DviKind>
         requires pages { self.pages < 2 ^ 64 - 1 }
         requires depth { depth_of self.stage < 2 ^ 64 - 1 }
-        ensures exact { (bytes : List ℕ) → Gives standing_of result (stood fonts.now (standing_of self) at (meant bytes command.now)) }
+        ensures exact { (bytes : List ℕ) → Gives standing_of result (stood fonts.now (standing_of
+            self) at (meant bytes command.now)) }
         ensures pages { IfOk result (λ st. st.pages ≤ self.pages + 1) }
         ensures depth { IfOk result (λ st. depth_of st.stage ≤ depth_of self.stage + 1) }
     {

@@ -88,7 +88,9 @@ fn define(
 ) -> Result<Fonts, DviFault>
     requires area { IsPartIn (length bytes.now) spelt.area }
     requires name { IsPartIn (length bytes.now) spelt.name }
-    ensures { Agrees (λ f. f) dvi_cause result (faulted (placed_at at (defined_at (stage_of standing.stage) fonts (named_font spelt.numbers (text_of bytes.now spelt.area ++ text_of bytes.now spelt.name))))) }
+    ensures { Agrees (λ f. f) dvi_cause result (faulted (placed_at at (defined_at (stage_of
+        standing.stage) fonts (named_font spelt.numbers (text_of bytes.now spelt.area ++ text_of
+        bytes.now spelt.name))))) }
 {
     if let Err(kind) = standing.may_define() {
         return Err(DviFault::Bad(DviBad { at, kind }));
@@ -112,7 +114,8 @@ fn stand(
 ) -> Result<Standing, DviFault>
     requires pages { standing.pages < 2 ^ 64 - 1 }
     requires depth { depth_of standing.stage < 2 ^ 64 - 1 }
-    ensures exact { (bytes : List ℕ) → Agrees standing_of dvi_cause result (faulted (placed_at at (stood fonts.now (standing_of standing) at (meant bytes command.now)))) }
+    ensures exact { (bytes : List ℕ) → Agrees standing_of dvi_cause result (faulted (placed_at at
+        (stood fonts.now (standing_of standing) at (meant bytes command.now)))) }
     ensures pages { IfOk result (λ st. st.pages ≤ standing.pages + 1) }
     ensures depth { IfOk result (λ st. depth_of st.stage ≤ depth_of standing.stage + 1) }
 {
@@ -141,7 +144,8 @@ fn obey(
     requires pages { standing.pages < 2 ^ 64 - 1 }
     requires depth { depth_of standing.stage < 2 ^ 64 - 1 }
     requires parts { HasPartsIn (length bytes.now) command.now }
-    ensures exact { Agrees (λ x. outline_of x.0 x.1) dvi_cause result (faulted (placed_at at (outlined (outline_of fonts standing) at (meant bytes.now command.now)))) }
+    ensures exact { Agrees (λ x. outline_of x.0 x.1) dvi_cause result (faulted (placed_at at
+        (outlined (outline_of fonts standing) at (meant bytes.now command.now)))) }
     ensures pages { IfOk result (λ x. x.1.pages ≤ standing.pages + 1) }
     ensures depth { IfOk result (λ x. depth_of x.1.stage ≤ depth_of standing.stage + 1) }
 {

@@ -1,12 +1,11 @@
-use Rattle.std.proofs.Common.{rules, arith, ◌≡◌, ◌<◌, ◌≤◌, ◌-◌, ◌+◌, ◌++◌, ◌∷◌, [], length, take, drop, sym, ap, ◌∙◌, ℤ, List, w32, Ok}
+use Rattle.std.proofs.Common.{rules, arith, ◌≡◌, ◌<◌, ◌≤◌, length, take, drop, ◌∙◌, w32}
 use Rattle.std.proofs.lemmas.Result.{err_from_is_err_and}
 use Rattle.std.proofs.lemmas.Int.{to_z-of_z}
 use Rattle.std.proofs.lemmas.List.{take_more_set}
-use Rattle.std.proofs.Math.ListN.{set, length-set}
+use Rattle.std.proofs.Math.ListN.{length-set}
 use Rattle.std.proofs.lemmas.List.{take_all}
 use mir.Val.{SFits}
-use Rattle.dvi_code.specs.Fields.{counts}
-use Rattle.dvi_code.proofs.Counts.{with_front, goes_on, ends, is_done}
+use Rattle.dvi_code.proofs.Counts.{goes_on, ends, is_done}
 use Rattle.dvi_code.proofs.field.counts_at.Goals as goal
 
 pub returns-in_err-count-clause-exact : goal.returns-in_err-count-clause-exact

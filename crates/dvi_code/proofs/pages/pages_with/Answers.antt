@@ -1,8 +1,7 @@
 use Rattle.std.proofs.Common.{sym, ◌∙◌, ◌≡◌, true, false}
 use Rattle.std.proofs.lemmas.Result.{err_from_is_err_and}
 use Rattle.dvi_code.specs.Commands.{meant}
-use Rattle.dvi_code.specs.Places.{placed}
-use Rattle.dvi_code.specs.Straight.{start_reader, reader_of, list_of, pages_on, ends_pages}
+use Rattle.dvi_code.specs.Straight.{reader_of, list_of, ends_pages}
 use Rattle.dvi_code.proofs.PageReads.{read_command_fault, read_ends, read_fault, read_goes_on}
 use Rattle.dvi_code.proofs.pages.pages_with.Goals as goal
 

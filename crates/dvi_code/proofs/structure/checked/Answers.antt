@@ -1,4 +1,4 @@
-use Rattle.std.proofs.Common.{arith, length, sym, ◌≤◌, ◌∙◌, ◌≡◌, true, false}
+use Rattle.std.proofs.Common.{arith, sym, ◌∙◌, ◌≡◌, true, false}
 use Rattle.std.proofs.lemmas.Result.{err_from_is_err_and}
 use Rattle.dvi_code.specs.Commands.{meant}
 use Rattle.dvi_code.specs.Places.{is_last}

@@ -1,4 +1,4 @@
-use Rattle.std.proofs.Common.{◌≡◌, ◌-◌, ◌≤◌, length, drop}
+use Rattle.std.proofs.Common.{◌≡◌, ◌-◌, ◌≤◌, drop}
 use Rattle.dvi_code.specs.Structure.{filled}
 use Rattle.dvi_code.proofs.structure.fill.Given as goal
 
