@@ -1,7 +1,7 @@
 //! What a page marks.
 
-use ts_geometry::{Dir, Point, Sp};
 use ts_base::List;
+use ts_geometry::{Dir, Point, Sp};
 use ts_outside::FileName;
 
 /// What a mark is.

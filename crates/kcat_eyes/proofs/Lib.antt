@@ -1,4 +1,3 @@
 pub mod Examples
 pub mod Finds
 pub mod Turns
-pub mod Starts

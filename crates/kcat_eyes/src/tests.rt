@@ -2,7 +2,8 @@
 
 ghost use Rattle.std.specs.Prelude.{◌≡◌, true, false, IfOk};
 ghost use Rattle.kcat_eyes.specs.StartCodes.{start_cat, start_kcat};
-ghost use Rattle.kcat_eyes.proofs.Starts.{start_bounds};
+ghost use Rattle.std.proofs.Common.{lit≤};
+ghost use Rattle.kcat_eyes.specs.StartBounds.{start_bounds};
 
 use crate::find::{Find, in_line};
 use crate::state::State;
@@ -109,7 +110,7 @@ fn lines(rt: HostRuntime) -> Result<(), Fail> {
 
 // A file of these bytes in EUC, with reads cut to one byte, and the eyes on it.
 fn opened(alloc: Global, bytes: &[u8]) -> Result<(MemFiles, Eyes), Fail>
-    ensures open { IfOk result (λ o. ⟦<MemFiles as Files>⟧.is_open o.0 o.1.lines.file ≡ true) }
+    ensures open { IfOk result (λ o. (⟦<MemFiles as Files>⟧.state o.0).is_open o.1.lines.file ≡ true) }
     ensures unfailed { IfOk result (λ o. o.1.lines.failed ≡ false) }
 {
     let name = FileName::new(alloc, b"a.tex")?;
@@ -177,9 +178,9 @@ fn tokens_of_lines(rt: HostRuntime) -> Result<(), Fail> {
 struct Plain;
 
 impl CodeTable for Plain {
-    ghost cat_of = { λ _ code. 12 };
+    ghost codes = { λ _. record { cat = λ _. 12; kcat = λ _. 18 } };
 
-    ghost kcat_of = { λ _ cell. 18 };
+    ghost bounds = { λ _. (λ _. lit≤ tt, λ _. (lit≤ tt, lit≤ tt)) };
 
     fn cat(&self, _code: u8) -> u8 {
         12

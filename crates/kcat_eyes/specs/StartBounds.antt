@@ -18,14 +18,26 @@ or_cat test x y of_x of_y = either IsCat test x y of_x of_y
 
 start_cats : (code : ℕ) → start_cat code ≤ 15
 start_cats code =
-    or_cat _ _ _ (lit≤ tt) (or_cat _ _ _ (lit≤ tt) (or_cat _ _ _ (lit≤ tt) (or_cat _ _ _ (lit≤ tt) (or_cat _ _ _ (lit≤ tt) (or_cat _ _ _ (lit≤ tt)
-    (or_cat _ _ _ (lit≤ tt) (or_cat _ _ _ (lit≤ tt) (or_cat _ _ _ (lit≤ tt) (or_cat _ _ _ (lit≤ tt) (lit≤ tt))))))))))
+    or_cat _ 0 _ (lit≤ tt) (or_cat _ 1 _ (lit≤ tt) (or_cat _ 2 _ (lit≤ tt) (or_cat _ 5 _ (lit≤ tt) (or_cat _ 9 _ (lit≤ tt) (or_cat _ 10 _ (lit≤ tt)
+    (or_cat _ 11 _ (lit≤ tt) (or_cat _ 13 _ (lit≤ tt) (or_cat _ 14 _ (lit≤ tt) (or_cat _ 15 12 (lit≤ tt) (lit≤ tt))))))))))
 
 abbrev IsKind : ℕ → Type 0
 IsKind n = (16 ≤ n) × (n ≤ 18)
 
+or_kind : (test : Bool) (x y : ℕ) → IsKind x → IsKind y → IsKind (if test then x else y)
+or_kind test x y of_x of_y = either IsKind test x y of_x of_y
+
+kana_kind : IsKind 17
+kana_kind = (lit≤ tt, lit≤ tt)
+
+kanji_kind : IsKind 16
+kanji_kind = (lit≤ tt, lit≤ tt)
+
+other_kind : IsKind 18
+other_kind = (lit≤ tt, lit≤ tt)
+
 start_kinds : (cell : Kuten) → IsKind (start_kcat cell)
-start_kinds cell = either IsKind _ _ _ (lit≤ tt, lit≤ tt) (either IsKind _ _ _ (lit≤ tt, lit≤ tt) (lit≤ tt, lit≤ tt))
+start_kinds cell = or_kind _ 17 _ kana_kind (or_kind _ 16 18 kanji_kind other_kind)
 
 pub start_bounds : AreCodes (record { cat = start_cat; kcat = start_kcat })
 start_bounds = (start_cats, start_kinds)
