@@ -4,13 +4,12 @@ use Rattle.ts_base.specs.Agreement.{◌>>=◌}
 use Rattle.input_codings.specs.declared.coding.Coding.TheVariants.{Euc}
 use Rattle.tok_lists.specs.declared.spelling.Spelling.{Spelling}
 use Rattle.tok_lists.specs.declared.token.Token.TheVariants as tokens
-use Rattle.kcat_eyes.specs.declared.fault.EyeFault.{EyeFault}
 use Rattle.kcat_eyes.specs.declared.fault.EyeFault.TheVariants as faults
 use Rattle.kcat_eyes.specs.declared.seen.Seen.{Seen}
 use Rattle.kcat_eyes.specs.declared.seen.Seen.TheVariants as seen
 use Rattle.kcat_eyes.specs.declared.state.State.TheVariants.{NewLine}
 use Rattle.tok_lists.specs.Codes.{Codes}
-use Rattle.kcat_eyes.specs.Eyes.{Sight, next, needed_line}
+use Rattle.kcat_eyes.specs.Eyes.{Sight, FaultAt, next, at_line}
 use Rattle.kcat_eyes.specs.StartCodes.{start_cat, start_kcat}
 
 start : Codes
@@ -21,7 +20,7 @@ whole : List ℕ → Sight
 whole bytes = record { state = NewLine; rest = []; lines = record { coding = Euc; line_no = 0; bytes = bytes }; ends = false }
 
 -- so many looks, one after another
-looks : ℕ → List Spelling → Sight → Result (List Seen) EyeFault
+looks : ℕ → List Spelling → Sight → Result (List Seen) FaultAt
 looks zero names sight = Ok []
 looks (suc n) names sight = next start names sight >>= λ look. looks n look.names look.sight >>= λ more. Ok (look.seen ∷ more)
 
@@ -50,7 +49,7 @@ unfolding next start whole looks one ja
 braces_behind_kana = refl
 
 -- byte 127
-invalid : looks 1 [] (whole (127 ∷ [])) ≡ Err faults.BadChar
+invalid : looks 1 [] (whole (127 ∷ [])) ≡ Err (at_line 1 faults.BadChar)
 unfolding next start whole looks
 invalid = refl
 
@@ -71,6 +70,6 @@ unfolding next start whole looks one
 ends_after_the_first_line = refl
 
 -- a comment, and an invalid character in the line behind it
-fault_in_the_second_line : needed_line start (whole (37 ∷ 10 ∷ 127 ∷ [])) ≡ 2
-unfolding needed_line start whole
+fault_in_the_second_line : looks 1 [] (whole (37 ∷ 10 ∷ 127 ∷ [])) ≡ Err (at_line 2 faults.BadChar)
+unfolding next start whole looks
 fault_in_the_second_line = refl

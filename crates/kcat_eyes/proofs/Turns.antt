@@ -4,22 +4,19 @@ use Rattle.std.specs.Prelude.{◌==◌, if◌then◌else◌}
 use mathlib.Core.Bool.{false≢true}
 use Rattle.std.specs.Result.{IsErr, IsErrAnd}
 use Rattle.kcat_eyes.specs.declared.seen.Seen.{Seen}
-use Rattle.ts_base.specs.Agreement.{Agrees, ◌>>=◌, AgreesFault, Cause, Determined, Counted, Free}
-use Rattle.ts_base.proofs.Composing.{same_agrees, exit_agrees}
+use Rattle.ts_base.specs.Agreement.{Agrees, ◌>>=◌, AgreesFault, with_fault}
+use Rattle.ts_base.proofs.Composing.{same_agrees}
 use Rattle.jis_codes.specs.declared.character.Char.{Char}
 use Rattle.tok_lists.specs.declared.spelling.Spelling.{Spelling}
 use Rattle.input_codings.specs.declared.fault.LineFault.{LineFault}
 use Rattle.input_codings.specs.declared.fault.LineFault.TheVariants as faults
 use Rattle.input_codings.specs.Pieces.{Piece, pieces, after_ten, byte_then}
 use Rattle.input_codings.specs.Lines.{Unread, past_line, characters, first_of, line_cause}
-use Rattle.kcat_eyes.specs.declared.find.Find.{Find}
-use Rattle.kcat_eyes.specs.declared.find.Find.TheVariants as finds
 use Rattle.kcat_eyes.specs.declared.state.State.TheVariants.{NewLine}
 use Rattle.kcat_eyes.specs.declared.fault.EyeFault.{EyeFault}
 use Rattle.tok_lists.specs.Codes.{Codes}
-use Rattle.kcat_eyes.specs.Eyes.{Sight, Look, Glance, Gives, Spells, Invalid, Nothing, in_line, in_lines, still_read, behind_line, next, looked, is_nothing, last_needed, needed_behind_line, needed_line, eye_fault}
-use Rattle.kcat_eyes.specs.Finds.{glance_of}
-use Rattle.kcat_eyes.specs.Sights.{eye_cause, IsLine, EndsAtLine}
+use Rattle.kcat_eyes.specs.Eyes.{Sight, Look, FaultAt, at_line, Nothing, in_line, in_lines, still_read, behind_line, next, looked, eye_fault}
+use Rattle.kcat_eyes.specs.Sights.{eye_cause, look_cause}
 
 tail : List Piece → List Piece
 tail [] = []
@@ -88,28 +85,9 @@ pub turn_some : (codes : Codes) (names : List Spelling) (ends : Bool) (u u' : Un
     → in_lines codes names ends u (still_read u ends) ≡ looked names u' ends (in_line codes NewLine cs) (in_lines codes names ends u' (still_read u' ends))
 turn_some codes names ends u u' cs start is = let r = reads u u' ends cs start is in rw (r.first, r.line, r.past) refl
 
-pub needed_some : (codes : Codes) (ends : Bool) (u u' : Unread) (cs : List Char) → (ends ≡ true → u.line_no ≡ 0) → first_of u (pieces u.bytes) ≡ Ok (Some cs, u')
-    → last_needed codes u (still_read u ends) ≡ needed_line codes (record { state = NewLine; rest = cs; lines = u'; ends = ends })
-unfolding needed_line
-needed_some codes ends u u' cs start is = let r = reads u u' ends cs start is in rw (r.first, r.line, r.past) refl
-
 pub nothing_next : (codes : Codes) (names : List Spelling) (sight : Sight) → in_line codes sight.state sight.rest ≡ Nothing → next codes names sight ≡ behind_line codes names sight
 unfolding next
 nothing_next codes names sight none = rw none refl
-
-pub nothing_needed : (codes : Codes) (sight : Sight) → in_line codes sight.state sight.rest ≡ Nothing → needed_line codes sight ≡ needed_behind_line codes sight
-unfolding needed_line
-nothing_needed codes sight none = rw none refl
-
-something : (glance : Glance) → glance ≢ Nothing → is_nothing glance ≡ false
-something (Gives token state rest) some = refl
-something (Spells spelling state rest) some = refl
-something Invalid some = refl
-something Nothing some = absurd (some refl)
-
-pub something_needed : (codes : Codes) (sight : Sight) → in_line codes sight.state sight.rest ≢ Nothing → needed_line codes sight ≡ sight.lines.line_no
-unfolding needed_line
-something_needed codes sight some = rw (something _ some) refl
 
 pub line_causes : (e : LineFault) → eye_cause (eye_fault e) ≡ line_cause e
 line_causes faults.TooManyLines = refl
@@ -118,26 +96,7 @@ line_causes (faults.BadByte place) = refl
 line_causes faults.ReadFault = refl
 line_causes faults.NoMemory = refl
 
-pub refusal : (view : Seen → Look) (result : Result Seen EyeFault) (e : EyeFault) {a b : Result Look EyeFault} → IsErr result × IsErrAnd result (λ d. d ≡ e) → a ≡ b
-    → AgreesFault (eye_cause e) e b → Agrees view eye_cause result a
-refusal view result e err same is = exit_agrees view eye_cause result e _ err (same_agrees (eye_cause e) e _ _ same is)
-
-line_of : (cause : Cause) (n m : ℕ) → n ≡ m → IsLine cause n m
-line_of Determined n m is = is
-line_of Counted n m is = _
-line_of Free n m is = _
-
-pub any_line : (result : Result Seen EyeFault) (n m : ℕ) → n ≡ m → EndsAtLine result n m
-any_line (Ok x) n m is = is
-any_line (Err e) n m is = line_of (eye_cause e) n m is
-
-pub refusal_line : (result : Result Seen EyeFault) (e : EyeFault) (n m m' : ℕ) → IsErr result × IsErrAnd result (λ d. d ≡ e) → m' ≡ m → IsLine (eye_cause e) n m → EndsAtLine result n m'
-refusal_line (Ok x) e n m m' err same is = absurd (false≢true err.0)
-refusal_line (Err d) e n m m' err same is = rw (err.1, same) is
-
-pub glance_something : (line : List Char) (found : Find) → found ≢ finds.Nothing → glance_of line found ≢ Nothing
-glance_something line (finds.Token token state at) some = λ is. cc
-glance_something line (finds.Name active from to state) some = λ is. cc
-glance_something line finds.Paragraph some = λ is. cc
-glance_something line finds.Invalid some = λ is. cc
-glance_something line finds.Nothing some = absurd (some refl)
+pub refusal : (view : Seen → Look) (n : ℕ) (result : Result Seen EyeFault) (e : EyeFault) {a b : Result Look FaultAt} → IsErr result × IsErrAnd result (λ d. d ≡ e) → a ≡ b
+    → AgreesFault (eye_cause e) (at_line n e) b → Agrees view look_cause (with_fault (at_line n) result) a
+refusal view n (Ok x) e err same is = absurd (false≢true err.0)
+refusal view n (Err d) e err same is = rw err.1 (same_agrees (eye_cause e) (at_line n e) _ _ same is)

@@ -119,6 +119,14 @@ pub record Look : Type 0 where
   pub names : List Spelling
   pub sight : Sight
 
+-- a fault, and the number of the last line that was needed and is there
+pub record FaultAt : Type 0 where
+  pub fault : EyeFault
+  pub line_no : ℕ
+
+abbrev pub at_line : ℕ → EyeFault → FaultAt
+at_line n fault = record { fault = fault; line_no = n }
+
 abbrev pub eye_fault : LineFault → EyeFault
 eye_fault line_faults.TooManyLines = faults.TooManyLines
 eye_fault line_faults.LineTooLong = faults.LineTooLong
@@ -130,16 +138,17 @@ abbrev pub name_fault : NamesFault → EyeFault
 name_fault names_faults.NamesFull = faults.NamesFull
 name_fault names_faults.NoMemory = faults.NoMemory
 
-abbrev pub named : Spelling → List Spelling → Sight → Result Look EyeFault
+abbrev pub named : Spelling → List Spelling → Sight → Result Look FaultAt
 named spelling names sight =
-    with_fault name_fault (numbered names spelling) >>= λ n. Ok (record { seen = seen.Token (tokens.Name (record { 0 = n })); names = with_name names spelling; sight = sight })
+    with_fault (λ f. at_line sight.lines.line_no (name_fault f)) (numbered names spelling)
+    >>= λ n. Ok (record { seen = seen.Token (tokens.Name (record { 0 = n })); names = with_name names spelling; sight = sight })
 
 -- what a glance comes to; where it gave nothing, what is seen in the lines behind it
-abbrev pub looked : List Spelling → Unread → Bool → Glance → Result Look EyeFault → Result Look EyeFault
+abbrev pub looked : List Spelling → Unread → Bool → Glance → Result Look FaultAt → Result Look FaultAt
 looked names lines ends (Gives token state rest) behind =
     Ok (record { seen = seen.Token token; names = names; sight = record { state = state; rest = rest; lines = lines; ends = ends } })
 looked names lines ends (Spells spelling state rest) behind = named spelling names (record { state = state; rest = rest; lines = lines; ends = ends })
-looked names lines ends Invalid behind = Err faults.BadChar
+looked names lines ends Invalid behind = Err (at_line lines.line_no faults.BadChar)
 looked names lines ends Nothing behind = behind
 
 abbrev pub at_end : List Spelling → Unread → Bool → Look
@@ -150,41 +159,15 @@ abbrev pub still_read : Unread → Bool → List Piece
 still_read lines ends = if ends then take (1 - lines.line_no) (pieces lines.bytes) else pieces lines.bytes
 
 -- what is seen in lines, of which the first is needed
-abbrev pub in_lines : Codes → List Spelling → Bool → Unread → List Piece → Result Look EyeFault
+abbrev pub in_lines : Codes → List Spelling → Bool → Unread → List Piece → Result Look FaultAt
 in_lines codes names ends lines [] = Ok (at_end names lines ends)
 in_lines codes names ends lines (p ∷ ps) =
-    with_fault eye_fault (characters lines.coding (lines.line_no + 1) p)
+    with_fault (λ f. at_line (lines.line_no + 1) (eye_fault f)) (characters lines.coding (lines.line_no + 1) p)
     >>= λ line. looked names (past_line lines) ends (in_line codes NewLine line) (in_lines codes names ends (past_line lines) ps)
 
-abbrev pub behind_line : Codes → List Spelling → Sight → Result Look EyeFault
+abbrev pub behind_line : Codes → List Spelling → Sight → Result Look FaultAt
 behind_line codes names sight = in_lines codes names sight.ends sight.lines (still_read sight.lines sight.ends)
 
--- the next token, or the end of the file, or the fault
-unfoldable pub next : Codes → List Spelling → Sight → Result Look EyeFault
+-- the next token, or the end of the file, or the fault with its line
+unfoldable pub next : Codes → List Spelling → Sight → Result Look FaultAt
 next codes names sight = looked names sight.lines sight.ends (in_line codes sight.state sight.rest) (behind_line codes names sight)
-
--- ---- the number of the line
-
-abbrev pub is_nothing : Glance → Bool
-is_nothing (Gives token state rest) = false
-is_nothing (Spells spelling state rest) = false
-is_nothing Invalid = false
-is_nothing Nothing = true
-
--- whether a line that is needed gives nothing, so that the line behind it is needed too
-abbrev pub gives_nothing : Codes → Result (List Char) LineFault → Bool
-gives_nothing codes (Ok line) = is_nothing (in_line codes NewLine line)
-gives_nothing codes (Err fault) = false
-
--- the number of the last line that is needed, of lines of which the first is needed
-abbrev pub last_needed : Codes → Unread → List Piece → ℕ
-last_needed codes lines [] = lines.line_no
-last_needed codes lines (p ∷ ps) =
-    if gives_nothing codes (characters lines.coding (lines.line_no + 1) p) then last_needed codes (past_line lines) ps else lines.line_no + 1
-
-abbrev pub needed_behind_line : Codes → Sight → ℕ
-needed_behind_line codes sight = last_needed codes sight.lines (still_read sight.lines sight.ends)
-
--- the number of the last line that the next token needs and that is there, also where there is a fault
-unfoldable pub needed_line : Codes → Sight → ℕ
-needed_line codes sight = if is_nothing (in_line codes sight.state sight.rest) then needed_behind_line codes sight else sight.lines.line_no

@@ -16,7 +16,7 @@ use Rattle.kcat_eyes.specs.declared.state.State.{State}
 use Rattle.kcat_eyes.specs.declared.state.State.TheVariants.{NewLine}
 use Rattle.tok_lists.specs.Codes.{Codes}
 use Rattle.tok_lists.specs.Names.{Grew}
-use Rattle.kcat_eyes.specs.Eyes.{Sight, behind_line, next, needed_behind_line, needed_line}
+use Rattle.kcat_eyes.specs.Eyes.{Sight, FaultAt, at_line, behind_line, next}
 
 -- the lines of a file, the state, the rest of the present line, and whether the file ends after this line
 pub record EyesView : Type 0 where
@@ -46,27 +46,15 @@ eye_cause (faults.BadByte place) = Determined
 eye_cause faults.ReadFault = Counted
 eye_cause faults.NoMemory = Free
 
+-- why no token is given at a line
+abbrev pub look_cause : FaultAt → Cause
+look_cause stop = eye_cause stop.fault
+
 -- After the present line another one is taken, or there is none, or it has a fault.
 abbrev pub Turns : Result Bool EyeFault → Sight → Sight → Type 0
 Turns (Ok true) old new = (codes : Codes) (names : List Spelling) → behind_line codes names old ≡ next codes names new
 Turns (Ok false) old new = (codes : Codes) (names : List Spelling) → behind_line codes names old ≡ Ok (record { seen = seen.End; names = names; sight = new })
-Turns (Err e) old new = (codes : Codes) (names : List Spelling) → AgreesFault (eye_cause e) e (behind_line codes names old)
-
-abbrev pub IsLine : Cause → ℕ → ℕ → Type 0
-IsLine Determined line_no needed = line_no ≡ needed
-IsLine Counted line_no needed = Unit {0}
-IsLine Free line_no needed = Unit {0}
-
--- After an answer that is determined, the number of lines is that of the last line that was needed.
-abbrev pub EndsAtLine : {X : Type 0} → Result X EyeFault → ℕ → ℕ → Type 0
-EndsAtLine (Ok x) line_no needed = line_no ≡ needed
-EndsAtLine (Err e) line_no needed = IsLine (eye_cause e) line_no needed
-
--- the last line that is needed, from one turn on
-abbrev pub TurnsLine : Result Bool EyeFault → Sight → Sight → Type 0
-TurnsLine (Ok true) old new = (codes : Codes) → needed_behind_line codes old ≡ needed_line codes new
-TurnsLine (Ok false) old new = (codes : Codes) → new.lines.line_no ≡ needed_behind_line codes old
-TurnsLine (Err e) old new = (codes : Codes) → IsLine (eye_cause e) new.lines.line_no (needed_behind_line codes old)
+Turns (Err e) old new = (codes : Codes) (names : List Spelling) → AgreesFault (eye_cause e) (at_line new.lines.line_no e) (behind_line codes names old)
 
 -- What is seen is a character, a name that is held, or the end.
 abbrev pub IsSeen : List Spelling → Seen → Type 0

@@ -1,13 +1,13 @@
 //! The eyes of an open file.
 
 ghost use Rattle.std.specs.Prelude.{◌≡◌, ◌≢◌, ◌≤◌, ◌+◌, true, false, length, drop, IsSome, Some, Option, is_err, Ok, Err, Bool, Result, OnOk, OnErr, IfOk, IfSome};
-ghost use Rattle.ts_base.specs.Agreement.{Agrees, Counts};
+ghost use Rattle.ts_base.specs.Agreement.{Agrees, Counts, with_fault};
 ghost use Rattle.ts_outside.specs.States.{OpensIfOk, ReadsOn, Closes};
 ghost use Rattle.ts_outside.specs.Reading.{bytes_of};
 ghost use Rattle.input_codings.specs.Reading.{IsReadOn};
-ghost use Rattle.kcat_eyes.specs.Eyes.{next as the_next, needed_line};
+ghost use Rattle.kcat_eyes.specs.Eyes.{next as the_next, at_line};
 ghost use Rattle.kcat_eyes.specs.Finds.{glance_of, IsInLine};
-ghost use Rattle.kcat_eyes.specs.Sights.{line_in, sight_of, eye_cause, first_sight, EndsAtLine, SeesNames};
+ghost use Rattle.kcat_eyes.specs.Sights.{line_in, sight_of, eye_cause, look_cause, first_sight, SeesNames};
 ghost use Rattle.input_codings.specs.Lines.{open_cause};
 
 use crate::fault::EyeFault;
@@ -105,7 +105,8 @@ impl Eyes {
         self.lines.close(files);
     }
 
-    /// The next token, or the end of the file. After a fault it isn't asked for another.
+    /// Returns the next token, or the end of the file. After a fault, whose line is `line_no`, it
+    /// isn't asked for another.
     pub fn next<F: Files, C: CodeTable>(
         &mut self,
         files: &mut F,
@@ -115,11 +116,9 @@ impl Eyes {
         requires open { (F.state files.old).is_open self.old.lines.file ≡ true }
         requires unfailed { self.old.lines.failed ≡ false }
         ensures exact { IsSome ((F.state files.old).left self.old.lines.file)
-            → Agrees (λ seen. record { seen = seen; names = names.new; sight = sight_of self.new ((F.state files.new).left self.old.lines.file) }) eye_cause result
-            (the_next (C.codes codes.now) names.old (sight_of self.old ((F.state files.old).left self.old.lines.file))) }
-        ensures place { IsSome ((F.state files.old).left self.old.lines.file)
-            → EndsAtLine result self.new.lines.line_no (needed_line (C.codes codes.now)
-            (sight_of self.old ((F.state files.old).left self.old.lines.file))) }
+            → Agrees (λ seen. record { seen = seen; names = names.new; sight = sight_of self.new ((F.state files.new).left self.old.lines.file) }) look_cause
+            (with_fault (at_line self.new.lines.line_no) result) (the_next (C.codes codes.now)
+            names.old (sight_of self.old ((F.state files.old).left self.old.lines.file))) }
         ensures lines { IsReadOn self.old.lines self.new.lines }
         ensures unfailed { OnOk result (self.new.lines.failed ≡ false) }
         ensures names { SeesNames result names.old names.new }

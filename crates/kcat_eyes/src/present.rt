@@ -1,13 +1,13 @@
 //! The present line.
 
 ghost use Rattle.std.specs.Prelude.{◌≡◌, ◌≢◌, ◌≤◌, length, drop, true, false, Bool, Result, IsSome, is_err};
-ghost use Rattle.ts_base.specs.Agreement.{Agrees, Counts, Uncounted};
+ghost use Rattle.ts_base.specs.Agreement.{Agrees, Counts, Uncounted, with_fault};
 ghost use Rattle.ts_outside.specs.States.{ReadsOn};
 ghost use Rattle.input_codings.specs.Lines.{Unread};
 ghost use Rattle.input_codings.specs.Reading.{unread};
-ghost use Rattle.kcat_eyes.specs.Eyes.{Look, Sight, in_line as what_is_in_line, looked, named};
+ghost use Rattle.kcat_eyes.specs.Eyes.{Look, Sight, FaultAt, at_line, in_line as what_is_in_line, looked, named};
 ghost use Rattle.kcat_eyes.specs.Finds.{glance_of, IsInLine};
-ghost use Rattle.kcat_eyes.specs.Sights.{line_in, eye_cause, sight_in, SeesNames, Turns, TurnsLine, CountsTurn};
+ghost use Rattle.kcat_eyes.specs.Sights.{line_in, eye_cause, look_cause, sight_in, SeesNames, Turns, CountsTurn};
 
 use crate::fault::EyeFault;
 use crate::find::{Find, in_line};
@@ -48,7 +48,9 @@ pub(crate) fn find<C: CodeTable>(present: &Present, codes: &C) -> Find
 
 // The name of characters, as what is seen.
 fn name(names: &mut Names, active: bool, chars: &[Char]) -> Result<Seen, EyeFault>
-    ensures exact { (sight : Sight) → Agrees (λ seen. record { seen = seen; names = names.new; sight = sight }) eye_cause result
+    ensures exact { (sight : Sight)
+        → Agrees (λ seen. record { seen = seen; names = names.new; sight = sight }) look_cause
+        (with_fault (at_line sight.lines.line_no) result)
         (named (record { active = active; chars = chars.now }) names.old sight) }
     ensures quiet { Uncounted eye_cause result }
     ensures names { SeesNames result names.old names.new }
@@ -62,9 +64,9 @@ pub(crate) fn see(present: &mut Present, found: Find, names: &mut Names) -> Resu
     requires here { present.old.at ≤ length (line_in present.old.line) }
     requires something { found ≢ Find.Nothing }
     requires places { IsInLine (length (line_in present.old.line)) found }
-    ensures exact { (lines : Unread) (ends : Bool) (behind : Result Look EyeFault)
-        → Agrees (λ seen. record { seen = seen; names = names.new; sight = sight_in present.new.state present.new.at present.new.line lines ends }) eye_cause result
-        (looked names.old lines ends (glance_of (line_in present.old.line) found) behind) }
+    ensures exact { (lines : Unread) (ends : Bool) (behind : Result Look FaultAt)
+        → Agrees (λ seen. record { seen = seen; names = names.new; sight = sight_in present.new.state present.new.at present.new.line lines ends }) look_cause
+        (with_fault (at_line lines.line_no) result) (looked names.old lines ends (glance_of (line_in present.old.line) found) behind) }
     ensures within { present.new.at ≤ length (line_in present.new.line) }
     ensures quiet { Uncounted eye_cause result }
     ensures names { SeesNames result names.old names.new }
@@ -105,9 +107,6 @@ pub(crate) fn turn<F: Files>(
     requires unfailed { lines.old.failed ≡ false }
     ensures exact { IsSome ((F.state files.old).left lines.old.file)
         → Turns result (sight_in present.old.state present.old.at present.old.line (unread lines.old ((F.state files.old).left lines.old.file)) ends)
-        (sight_in present.new.state present.new.at present.new.line (unread lines.new ((F.state files.new).left lines.old.file)) ends) }
-    ensures place { IsSome ((F.state files.old).left lines.old.file)
-        → TurnsLine result (sight_in present.old.state present.old.at present.old.line (unread lines.old ((F.state files.old).left lines.old.file)) ends)
         (sight_in present.new.state present.new.at present.new.line (unread lines.new ((F.state files.new).left lines.old.file)) ends) }
     ensures within { present.new.at ≤ length (line_in present.new.line) }
     ensures file { lines.new.file ≡ lines.old.file }

@@ -2,7 +2,7 @@ use Rattle.std.proofs.Common.{rules, ◌≡◌, refl, sym, ◌∙◌, drop}
 use Rattle.input_codings.specs.Reading.{unread}
 use Rattle.kcat_eyes.specs.Eyes.{next, in_line, Nothing, behind_line}
 use Rattle.kcat_eyes.specs.Sights.{line_in, sight_in}
-use Rattle.kcat_eyes.proofs.Turns.{nothing_next, nothing_needed, something_needed, refusal, refusal_line, any_line, glance_something}
+use Rattle.kcat_eyes.proofs.Turns.{nothing_next, refusal}
 use Rattle.kcat_eyes.proofs.eyes.Eyes.next.Goals as goal
 
 pub returns-then-not-branch-clause-exact : goal.returns-then-not-branch-clause-exact
@@ -25,7 +25,7 @@ returns-in_err-turn-clause-exact g c = λ told.
     let none : in_line codes present.state (drop present.at (line_in present.line)) ≡ Nothing = sym (rw nothing at here.found) in
     let done = c.in_err-turn.ensures.exact (rw here.same (here.reads.1 told)) in
     let at_fault = rw here.same at (done codes c.args.names.now) in
-    refusal _ c.from_residual.result c.in_err-turn.field-0.0 c.from_residual.ensures (here.sight told ∙ nothing_next codes c.args.names.now _ none) at_fault
+    refusal _ _ c.from_residual.result c.in_err-turn.field-0.0 c.from_residual.ensures (here.sight told ∙ nothing_next codes c.args.names.now _ none) at_fault
 
 pub loop-found-preserved : goal.loop-found-preserved
 loop-found-preserved g c =
@@ -39,10 +39,6 @@ loop-found-preserved g c =
           let turned = rw c.if-not-branch.false at (c.in_ok-turn.ensures.exact (rw here.same (here.reads.1 told))) in
           let next_line = rw here.same at (turned codes c.args.names.now) in
           here.sight told ∙ nothing_next codes c.args.names.now _ none ∙ next_line;
-      place = λ told.
-          let turned = rw c.if-not-branch.false at (c.in_ok-turn.ensures.place (rw here.same (here.reads.1 told))) in
-          let next_line = rw here.same at (turned codes) in
-          here.place told ∙ nothing_needed codes _ none ∙ next_line;
       names = refl;
       rises = search rules;
       found = search rules;
@@ -63,34 +59,3 @@ returns-clause-exact g c = λ told.
     let lines = unread c.loop-found.self-inside.lines ((g.F.Files.state c.loop-found.files).left c.args.self.now.lines.file) in
     let sight = sight_in present.state present.at present.line lines c.loop-found.self-inside.ends in
     rw (here.sight told) (rw here.found at (c.see.ensures.exact lines c.loop-found.self-inside.ends (behind_line codes c.args.names.now sight)))
-
-pub returns-in_err-turn-clause-place : goal.returns-in_err-turn-clause-place
-returns-in_err-turn-clause-place g c = λ told.
-    let codes = g.C.CodeTable.codes c.args.codes.now in
-    let here = c.loop-found.invariant in
-    let present = c.loop-found.self-inside.present in
-    let nothing = c.is_nothing.ensures.nothing c.loop-found-test.true in
-    let none : in_line codes present.state (drop present.at (line_in present.line)) ≡ Nothing = sym (rw nothing at here.found) in
-    let line = rw here.same at (c.in_err-turn.ensures.place (rw here.same (here.reads.1 told)) codes) in
-    refusal_line c.from_residual.result c.in_err-turn.field-0.0 _ _ _ c.from_residual.ensures (here.place told ∙ nothing_needed codes _ none) line
-
-pub returns-then-not-branch-clause-place : goal.returns-then-not-branch-clause-place
-returns-then-not-branch-clause-place g c = λ told.
-    let codes = g.C.CodeTable.codes c.args.codes.now in
-    let here = c.loop-found.invariant in
-    let present = c.loop-found.self-inside.present in
-    let nothing = c.is_nothing.ensures.nothing c.loop-found-test.true in
-    let none : in_line codes present.state (drop present.at (line_in present.line)) ≡ Nothing = sym (rw nothing at here.found) in
-    let done = rw c.if-not-branch.true at (c.in_ok-turn.ensures.place (rw here.same (here.reads.1 told))) in
-    let line = rw here.same at (done codes) in
-    line ∙ sym (here.place told ∙ nothing_needed codes _ none)
-
-pub returns-clause-place : goal.returns-clause-place
-returns-clause-place g c = λ told.
-    let codes = g.C.CodeTable.codes c.args.codes.now in
-    let here = c.loop-found.invariant in
-    let present = c.loop-found.self-inside.present in
-    let lines = unread c.loop-found.self-inside.lines ((g.F.Files.state c.loop-found.files).left c.args.self.now.lines.file) in
-    let sight = sight_in present.state present.at present.line lines c.loop-found.self-inside.ends in
-    let some = rw here.found at (glance_something (line_in present.line) c.loop-found.found (c.is_nothing.ensures.something c.loop-found-test.false)) in
-    any_line c.see.result _ _ (sym (here.place told ∙ something_needed codes sight some))

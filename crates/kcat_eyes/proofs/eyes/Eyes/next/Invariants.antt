@@ -1,7 +1,7 @@
 use Rattle.std.proofs.Common.{◌≡◌, ◌≤◌, ◌-◌, true, false, length, drop, IsSome}
 use Rattle.ts_outside.specs.States.{ReadsOn}
 use Rattle.input_codings.specs.Reading.{unread}
-use Rattle.kcat_eyes.specs.Eyes.{next, needed_line, in_line}
+use Rattle.kcat_eyes.specs.Eyes.{next, in_line}
 use Rattle.kcat_eyes.specs.Finds.{glance_of, IsInLine}
 use Rattle.kcat_eyes.specs.Sights.{line_in, sight_of, sight_in}
 use Rattle.kcat_eyes.proofs.eyes.Eyes.next.Given as goal
@@ -14,8 +14,6 @@ invariant-loop-found g l =
     record {
       sight : IsSome ((g.F.Files.state l.fn.files).left file) → next codes l.fn.names (sight_of l.fn.self ((g.F.Files.state l.fn.files).left file))
           ≡ next codes l.fn.names (sight_in present.state present.at present.line (unread l.self-inside.lines ((g.F.Files.state l.files).left file)) l.self-inside.ends);
-      place : IsSome ((g.F.Files.state l.fn.files).left file) → needed_line codes (sight_of l.fn.self ((g.F.Files.state l.fn.files).left file))
-          ≡ needed_line codes (sight_in present.state present.at present.line (unread l.self-inside.lines ((g.F.Files.state l.files).left file)) l.self-inside.ends);
       names : l.names ≡ l.fn.names;
       rises : l.fn.self.lines.line_no ≤ l.self-inside.lines.line_no;
       found : glance_of (line_in present.line) l.found ≡ in_line codes present.state (drop present.at (line_in present.line));
