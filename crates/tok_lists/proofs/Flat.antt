@@ -1,14 +1,15 @@
 -- Laws of the flat list of tokens: lists put one before another, and bodies with their arguments put in place.
 use Prim.Native.Nat.{zero, suc}
-use Rattle.std.proofs.Common.{◌≡◌, ℕ, ◌+◌, ◌<◌, ◌≤◌, ◌-◌, List, [], ◌∷◌, ◌++◌, length, get_or, take, drop, refl, sym, ap, ◌∙◌, arith, length-append}
+use Rattle.std.proofs.Common.{◌≡◌, ℕ, ◌+◌, ◌<◌, ◌≤◌, ◌-◌, List, [], ◌∷◌, ◌++◌, length, get_or, slice_get, take, drop, Option, Some, None, Ok, IfSome, refl, sym, ap, subst, ◌∙◌, arith, length-append}
 use Rattle.std.specs.List.{flat_map}
 use Rattle.std.proofs.lemmas.List.{take-append-drop, take_more}
 use Rattle.std.proofs.lemmas.List.Concat.{flat_map-append}
 use Rattle.tok_lists.specs.declared.spelling.Spelling.{Spelling}
 use Rattle.tok_lists.specs.declared.token.Token.{Token}
 use Rattle.tok_lists.specs.declared.token.Token.TheVariants as tokens
-use Rattle.tok_lists.specs.Names.{IsHeld, AreHeld, IsNoParam, HasNoParam}
-use Rattle.tok_lists.specs.Pending.{argument, in_place, with_arguments, HaveNoParam, AllHeld}
+use Rattle.tok_lists.specs.Names.{Grew, IsHeld, AreHeld, IsNoParam, HasNoParam}
+use Rattle.tok_lists.specs.Pending.{argument, in_place, with_arguments, put_before, Takes, HaveNoParam, AllHeld}
+use Rattle.tok_lists.proofs.Growing.{all_held_still}
 
 -- A list without parameters is as it is, whatever the arguments are.
 pub unchanged : (args : List (List Token)) (list : List Token) → HasNoParam list → with_arguments args list ≡ list
@@ -58,6 +59,23 @@ call_held names args [] held body = tt
 call_held names args (token ∷ body) held both =
     held_together names (in_place args token) (with_arguments args body) (in_place_held names args token held both.0) (call_held names args body held both.1)
 
+pub held_at : (names : List Spelling) (list : List Token) (at : ℕ) (token : Token) → AreHeld names list → slice_get list at ≡ Some token → IsHeld names token
+held_at names [] at token held is = absurd (grind arith)
+held_at names (first ∷ list) zero token held is = let same : first ≡ token = grind arith in subst (IsHeld names) same held.0
+held_at names (first ∷ list) (suc at) token held is = held_at names list at token held.1 is
+
+pub taken_held : (names : List Spelling) (old new : List Token) (token : Option Token) → Takes old token new → AreHeld names old → IfSome token (IsHeld names) × AreHeld names new
+taken_held names old new None taken held = (tt, subst (AreHeld names) (sym taken.1) tt)
+taken_held names old new (Some token) taken held = subst (AreHeld names) taken held
+
+pub all_held_last : (names : List Spelling) (args : List (List Token)) (last : List Token) → AllHeld names args → AreHeld names last → AllHeld names (args ++ last ∷ [])
+all_held_last names [] last all held = (held, tt)
+all_held_last names (first ∷ args) last all held = (all.0, all_held_last names args last all.1 held)
+
+pub lists_held_still : (old new : List Spelling) (args : List (List Token)) → Grew old new → AllHeld old args → AllHeld new args
+lists_held_still old new [] grew all = tt
+lists_held_still old new (first ∷ args) grew all = (all_held_still old new first grew all.0, lists_held_still old new args grew all.1)
+
 pub no_param_together : (list pending : List Token) → HasNoParam list → HasNoParam pending → HasNoParam (list ++ pending)
 no_param_together [] pending none others = others
 no_param_together (token ∷ list) pending none others = (none.0, no_param_together list pending none.1 others)
@@ -78,3 +96,19 @@ pub call_no_param : (args : List (List Token)) (body : List Token) → HaveNoPar
 call_no_param args [] none = tt
 call_no_param args (token ∷ body) none =
     no_param_together (in_place args token) (with_arguments args body) (in_place_no_param args token none) (call_no_param args body none)
+
+pub no_param_at : (list : List Token) (at : ℕ) (token : Token) → HasNoParam list → slice_get list at ≡ Some token → IsNoParam token
+no_param_at [] at token none is = absurd (grind arith)
+no_param_at (first ∷ list) zero token none is = let same : first ≡ token = grind arith in subst IsNoParam same none.0
+no_param_at (first ∷ list) (suc at) token none is = no_param_at list at token none.1 is
+
+pub taken_no_param : (old new : List Token) (token : Option Token) → Takes old token new → HasNoParam old → IfSome token IsNoParam × HasNoParam new
+taken_no_param old new None taken none = (tt, subst HasNoParam (sym taken.1) tt)
+taken_no_param old new (Some token) taken none = subst HasNoParam taken none
+
+pub no_param_last : (args : List (List Token)) (last : List Token) → HaveNoParam args → HasNoParam last → HaveNoParam (args ++ last ∷ [])
+no_param_last [] last all none = (none, tt)
+no_param_last (first ∷ args) last all none = (all.0, no_param_last args last all.1 none)
+
+pub put_is : (list pending new : List Token) → put_before list pending ≡ Ok new → new ≡ list ++ pending
+put_is list pending new put = grind arith

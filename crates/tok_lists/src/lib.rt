@@ -24,7 +24,7 @@ pub use laws::names_grow;
 pub use names::Names;
 pub use pending::Pending;
 pub use pending_fault::PendingFault;
-pub use pending_laws::flat_lists_are_held;
+pub use pending_laws::{flat_lists_are_held, flat_lists_are_put, flat_lists_have_no_param};
 pub use shared_tokens::SharedTokens;
 pub use spelling::Spelling;
 pub use token::{NameNo, Token, Tokens};

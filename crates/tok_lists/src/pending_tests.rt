@@ -1,6 +1,8 @@
 //! Lists, calls and what is read of them.
 
-ghost use Rattle.std.specs.Prelude.{◌≡◌, ◌<◌, [], ◌∷◌, ◌++◌, length, IfOk};
+ghost use Rattle.std.specs.Prelude.{◌≡◌, [], ◌∷◌, IfOk};
+ghost use Rattle.tok_lists.specs.Names.{HasNoParam};
+ghost use Rattle.tok_lists.specs.Pending.{AreParamsWithin};
 
 use crate::{Args, NameNo, Pending, PendingFault, SharedTokens, Token, Tokens};
 use std::alloc::Global;
@@ -37,74 +39,100 @@ fn two(alloc: Global, first: &[Token], second: &[Token]) -> Result<Args, NoMemor
     Ok(args)
 }
 
-// The pending tokens, of which none is left, and what is left to count.
-fn all_of(alloc: Global, mut pending: Pending) -> Result<(Tokens, usize), NoMemory> {
+fn list(alloc: Global, pending: &mut Pending, list: &[Token]) -> Result<(), PendingFault>
+    requires { HasNoParam list.now }
+{
+    pending.push_list(&SharedTokens::new(alloc, list)?)
+}
+
+fn call(
+    alloc: Global,
+    pending: &mut Pending,
+    body: &[Token],
+    first: &[Token],
+) -> Result<(), PendingFault>
+    requires params { AreParamsWithin 1 body.now }
+    requires no_param { HasNoParam first.now }
+{
+    pending.push_call(&SharedTokens::new(alloc, body)?, one(alloc, first)?)
+}
+
+fn call_of_two(
+    alloc: Global,
+    pending: &mut Pending,
+    body: &[Token],
+    first: &[Token],
+    second: &[Token],
+) -> Result<(), PendingFault>
+    requires params { AreParamsWithin 2 body.now }
+    requires first { HasNoParam first.now }
+    requires second { HasNoParam second.now }
+{
+    pending.push_call(&SharedTokens::new(alloc, body)?, two(alloc, first, second)?)
+}
+
+// The tokens that were pending.
+fn taken(alloc: Global, pending: &mut Pending) -> Result<Tokens, NoMemory> {
     let mut tokens = Tokens::new(alloc);
     for _ in 0..pending.len() {
         if let Some(token) = pending.take() {
             tokens.push(token)?;
         }
     }
-    Ok((tokens, pending.len()))
+    Ok(tokens)
 }
 
 #[test]
-fn the_flat_list_has_the_arguments_in_place(rt: HostRuntime) -> Result<(), Fail> {
+fn arguments_stand_in_their_places(rt: HostRuntime) -> Result<(), Fail> {
     let alloc = rt.alloc();
-    let ab = SharedTokens::new(alloc, &[A, B])?;
     let mut pending = Pending::new(alloc);
-    assert_eq!(rt; pending.take(), None);
-    assert_eq!(rt; pending.push_list(&ab), Ok(()));
-    let body = SharedTokens::new(alloc, &[SECOND, BAR, FIRST, SECOND, BAR])?;
+    list(alloc, &mut pending, &[A, B])?;
+    call_of_two(
+        alloc,
+        &mut pending,
+        &[SECOND, BAR, FIRST, SECOND, BAR],
+        &[A, B],
+        &[C],
+    )?;
+    call(alloc, &mut pending, &[BAR, FIRST, FIRST, BAR], &[])?;
+    call(alloc, &mut pending, &[C, FIRST], &[LOOP, B])?;
+    call(alloc, &mut pending, &[FIRST], &[])?;
+    list(alloc, &mut pending, &[])?;
     assert_eq!(rt;
-        pending.push_call(&body, two(alloc, &[A, B], &[C])?),
-        Ok(())
-    );
-    let body = SharedTokens::new(alloc, &[BAR, FIRST, FIRST, BAR])?;
-    assert_eq!(rt; pending.push_call(&body, one(alloc, &[])?), Ok(()));
-    let body = SharedTokens::new(alloc, &[C, FIRST])?;
-    assert_eq!(rt; pending.push_call(&body, one(alloc, &[LOOP, B])?), Ok(()));
-    assert_eq!(rt;
-        pending.push_call(&SharedTokens::new(alloc, &[FIRST])?, one(alloc, &[])?),
-        Ok(())
-    );
-    assert_eq!(rt; pending.push_list(&SharedTokens::new(alloc, &[])?), Ok(()));
-    assert_eq!(rt; pending.len(), 13);
-    let (tokens, left) = all_of(alloc, pending)?;
-    assert_eq!(rt;
-        tokens.as_slice(),
+        taken(alloc, &mut pending)?.as_slice(),
         [C, LOOP, B, BAR, BAR, C, BAR, A, B, C, BAR, A, B].as_slice()
     );
-    assert_eq!(rt; left, 0);
+    assert_eq!(rt; (pending.len(), pending.take()), (0, None));
     Ok(())
+}
+
+fn full(alloc: Global) -> Result<Pending, PendingFault> {
+    let ten = SharedTokens::new(alloc, &[A, B, C, A, B, C, A, B, C, BAR])?;
+    let mut pending = Pending::new(alloc);
+    for _ in 0..100_000u32 {
+        pending.push_list(&ten)?;
+    }
+    Ok(pending)
 }
 
 #[test]
 fn the_list_ends_at_1000000_tokens(rt: HostRuntime) -> Result<(), Fail> {
     let alloc = rt.alloc();
-    let ten = SharedTokens::new(alloc, &[A, B, C, A, B, C, A, B, C, BAR])?;
-    let bar = SharedTokens::new(alloc, &[BAR])?;
-    let body = SharedTokens::new(alloc, &[FIRST, FIRST])?;
-    let mut pending = Pending::new(alloc);
-    for _ in 0..100_000u32 {
-        assert_eq!(rt; pending.push_list(&ten), Ok(()));
-    }
-    assert_eq!(rt; pending.len(), 1_000_000);
-    assert_eq!(rt; pending.push_list(&bar), Err(PendingFault::TokensFull));
-    assert_eq!(rt;
-        pending.push_call(&bar, Args::new(alloc)),
-        Err(PendingFault::TokensFull)
-    );
-    assert_eq!(rt; pending.push_call(&body, one(alloc, &[])?), Ok(()));
-    assert_eq!(rt; pending.take(), Some(A));
-    assert_eq!(rt;
-        pending.push_call(&body, one(alloc, &[C])?),
-        Err(PendingFault::TokensFull)
-    );
-    assert_eq!(rt; pending.push_list(&bar), Ok(()));
-    assert_eq!(rt; pending.len(), 1_000_000);
-    assert_eq!(rt; pending.take(), Some(BAR));
-    assert_eq!(rt; pending.take(), Some(B));
+    let mut pending = full(alloc)?;
+    let answers = [
+        list(alloc, &mut pending, &[BAR]),
+        call(alloc, &mut pending, &[BAR], &[]),
+        call(alloc, &mut pending, &[FIRST, FIRST], &[]),
+    ];
+    let full = Err(PendingFault::TokensFull);
+    assert_eq!(rt; answers, [full, full, Ok(())]);
+    assert_eq!(rt; (pending.len(), pending.take()), (1_000_000, Some(A)));
+    let answers = [
+        call(alloc, &mut pending, &[FIRST, FIRST], &[C]),
+        list(alloc, &mut pending, &[BAR]),
+    ];
+    assert_eq!(rt; answers, [full, Ok(())]);
+    assert_eq!(rt; (pending.len(), pending.take()), (1_000_000, Some(BAR)));
     Ok(())
 }
 
@@ -114,11 +142,9 @@ fn a_loop_of_tail_calls(rt: HostRuntime) -> Result<(), Fail> {
     let body = SharedTokens::new(alloc, &[BAR, FIRST, LOOP])?;
     let mut pending = Pending::new(alloc);
     for _ in 0..100_000u32 {
-        assert_eq!(rt; pending.push_call(&body, one(alloc, &[A])?), Ok(()));
-        assert_eq!(rt; pending.take(), Some(BAR));
-        assert_eq!(rt; pending.take(), Some(A));
-        assert_eq!(rt; pending.take(), Some(LOOP));
-        assert_eq!(rt; pending.len(), 0);
+        pending.push_call(&body, one(alloc, &[A])?)?;
+        let tokens = [pending.take(), pending.take(), pending.take()];
+        assert_eq!(rt; tokens, [Some(BAR), Some(A), Some(LOOP)]);
     }
     assert_eq!(rt; pending.take(), None);
     Ok(())
@@ -128,11 +154,9 @@ fn a_loop_of_tail_calls(rt: HostRuntime) -> Result<(), Fail> {
 fn shared_lists_are_read_by_index(rt: HostRuntime) -> Result<(), Fail> {
     let list = SharedTokens::new(rt.alloc(), &[A, FIRST])?;
     let copy = list.same_copy();
-    assert_eq!(rt; copy.get(0), Some(A));
-    assert_eq!(rt; copy.get(1), Some(FIRST));
-    assert_eq!(rt; copy.get(2), None);
+    let tokens = [copy.get(0), copy.get(1), copy.get(2)];
+    assert_eq!(rt; tokens, [Some(A), Some(FIRST), None]);
     assert!(rt; copy == list);
-    assert!(rt; copy != SharedTokens::new(rt.alloc(), &[A])?);
     let args = two(rt.alloc(), &[A], &[B, C])?;
     assert_eq!(rt; args.as_slice()[1].as_slice(), [B, C].as_slice());
     Ok(())
