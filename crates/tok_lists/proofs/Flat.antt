@@ -8,7 +8,7 @@ use Rattle.tok_lists.specs.declared.spelling.Spelling.{Spelling}
 use Rattle.tok_lists.specs.declared.token.Token.{Token}
 use Rattle.tok_lists.specs.declared.token.Token.TheVariants as tokens
 use Rattle.tok_lists.specs.Names.{Grew, IsHeld, AreHeld, IsNoParam, HasNoParam}
-use Rattle.tok_lists.specs.Pending.{argument, in_place, with_arguments, put_before, Takes, HaveNoParam, AllHeld}
+use Rattle.tok_lists.specs.Pending.{in_place, with_arguments, put_before, Takes, HaveNoParam, AllHeld}
 use Rattle.tok_lists.proofs.Growing.{all_held_still}
 
 -- A list without parameters is as it is, whatever the arguments are.

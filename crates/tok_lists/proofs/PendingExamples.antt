@@ -1,5 +1,5 @@
 -- Small values of the flat list.
-use Rattle.std.proofs.Common.{◌≡◌, [], ◌∷◌, ◌++◌, List, Ok, refl}
+use Rattle.std.proofs.Common.{◌≡◌, [], ◌∷◌, Ok, refl}
 use Rattle.tok_lists.specs.declared.token.Token.{Token}
 use Rattle.tok_lists.specs.declared.token.Token.TheVariants.{Char, Param}
 use Rattle.tok_lists.specs.Pending.{with_arguments, put_before}

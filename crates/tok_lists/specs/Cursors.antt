@@ -1,5 +1,5 @@
 -- What the code keeps of the pending tokens: the rests of the lists that were put, the one that is read first at the end.
-use Rattle.std.specs.Prelude.{◌≡◌, ℕ, ◌≤◌, List, [], ◌∷◌, ◌++◌, length, drop}
+use Rattle.std.specs.Prelude.{◌≡◌, ℕ, ◌≤◌, List, [], ◌∷◌, ◌++◌, length}
 use Rattle.tok_lists.specs.declared.token.Token.{Token}
 use Rattle.tok_lists.specs.Names.{HasNoParam}
 use Rattle.tok_lists.specs.Pending.{most_pending}

@@ -10,7 +10,7 @@ use std::marker::Model;
 use ts_base::NoMemory;
 
 /// How many arguments have their place in the value itself. Few macros have more.
-const INLINE_ARGS: usize = 4;
+const INLINE_ARGS: usize = 2;
 
 /// The arguments of a macro call, at most nine (The TeXbook, chapter 20). Contracts see the list of
 /// them, each of them a list of tokens.
@@ -59,12 +59,23 @@ impl Args {
     }
 }
 
-/// The tokens of the argument of a number, counted from 1.
+/// The argument of a number, counted from 1.
 pub(crate) fn argument(args: &[SharedTokens], number: u8) -> SharedTokens
     ensures { result ≡ argument args.now number }
 {
-    match args.get(usize::from(number).saturating_sub(1)) {
+    let at = usize::from(number).saturating_sub(1);
+    match args.get(at) {
         Some(tokens) => tokens.same_copy(),
         None => SharedTokens::default(),
+    }
+}
+
+/// How many tokens the argument of a number has.
+pub(crate) fn argument_length(args: &[SharedTokens], number: u8) -> usize
+    ensures { result ≡ length (argument args.now number) }
+{
+    match args.get(usize::from(number).saturating_sub(1)) {
+        Some(tokens) => tokens.as_slice().len(),
+        None => 0,
     }
 }

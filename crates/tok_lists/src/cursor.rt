@@ -78,7 +78,7 @@ fn length_in_place(args: &[SharedTokens], token: Token) -> usize
     ensures { result ≡ length (in_place args.now token) }
 {
     match token {
-        Token::Param(number) => args::argument(args, number).as_slice().len(),
+        Token::Param(number) => args::argument_length(args, number),
         _ => 1,
     }
 }

@@ -1,4 +1,3 @@
-use Rattle.std.proofs.Common.{sym}
 use Rattle.tok_lists.proofs.Flat.{unchanged}
 use Rattle.tok_lists.proofs.cursor.Cursor.of_list.Goals as goal
 
