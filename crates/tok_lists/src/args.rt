@@ -9,7 +9,7 @@ use std::alloc::Global;
 use std::marker::Model;
 use ts_base::NoMemory;
 
-/// How many arguments have their place in the value itself. Few macros have more.
+/// How many arguments have their place in the value itself. A call with more takes an allocation.
 const INLINE_ARGS: usize = 2;
 
 /// The arguments of a macro call, at most nine (The TeXbook, chapter 20). Contracts see the list of

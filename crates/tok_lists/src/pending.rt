@@ -79,7 +79,8 @@ impl Pending {
     /// tokens. Refused, it leaves the tokens as they were.
     pub fn push_list(&mut self, list: &SharedTokens) -> Result<(), PendingFault>
         requires { HasNoParam list.now }
-        ensures answer { Agrees (λ _. self.new) pending_cause result (put_before list.now self.old) }
+        ensures answer { Agrees (λ _. self.new) pending_cause result
+            (put_before list.now self.old) }
         ensures err { OnErr result (self.new ≡ self.old) }
     {
         if MOST_PENDING - self.len() < list.as_slice().len() {

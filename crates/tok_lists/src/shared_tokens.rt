@@ -11,7 +11,8 @@ use std::alloc::Global;
 use std::marker::Model;
 use ts_base::NoMemory;
 
-/// A list of tokens that is shared, as a macro's body or an argument is. Contracts see the list.
+/// A list of tokens that is shared, as a macro's body or an argument is (The TeXbook, chapter 20).
+/// Contracts see the list.
 #[derive(Debug, Drop)]
 pub struct SharedTokens {
     // The empty list has no block of its own.
