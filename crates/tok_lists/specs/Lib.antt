@@ -3,3 +3,5 @@ pub mod Names
 pub mod Same
 pub mod Equality
 pub mod StartNames
+pub mod Pending
+pub mod Cursors
