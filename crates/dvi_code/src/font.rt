@@ -6,7 +6,7 @@ use ts_geometry::Sp;
 use ts_outside::FileName;
 
 /// The definition of a font.
-#[derive(Debug, Drop)]
+#[derive(Debug, Drop, PartialEq, Eq)]
 pub struct FontDef {
     /// The number by which the file selects it.
     pub number: i32,

@@ -5,7 +5,7 @@ use ts_geometry::{Dir, Point, Sp};
 use ts_outside::FileName;
 
 /// What a mark is.
-#[derive(Debug, Drop)]
+#[derive(Debug, Drop, PartialEq, Eq)]
 pub enum What {
     /// A glyph: the name of its font, the font's size in scaled points, and the character's code.
     Glyph(FileName, u32, u32),
@@ -14,7 +14,7 @@ pub enum What {
 }
 
 /// A mark on a page: what stands with its reference point where, and in which direction of writing.
-#[derive(Debug, Drop)]
+#[derive(Debug, Drop, PartialEq, Eq)]
 pub struct Mark {
     pub what: What,
     pub at: Point,

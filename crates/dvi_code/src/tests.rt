@@ -4,11 +4,14 @@ ghost use Rattle.std.specs.Prelude.{◌||◌, nat_eq, Some, None, pos, if◌then
 ghost use Rattle.ts_geometry.specs.Directions.{sp};
 
 use crate::{
-    Command, DviBad, DviFault, DviKind, FontDef, Mark, What, Widths, fonts, next_command,
+    Command, DviBad, DviFault, DviKind, DviPage, FontDef, Mark, What, Widths, fonts, next_command,
     put_short, put_signed, put_unsigned, read_pages,
 };
+use std::alloc::Global;
 use std::test::Fail;
+use ts_base::List;
 use ts_geometry::{Dir, Point, Sp};
+use ts_outside::FileName;
 
 #[test]
 fn numbers_are_put_with_the_highest_byte_first(rt: HostRuntime) -> Result<(), Fail> {
@@ -58,75 +61,124 @@ impl Widths for TwoCharacters {
     }
 }
 
-// The name of a glyph's font, with its code.
-fn is_glyph(mark: &Mark, name: &[u8], code: u32) -> bool {
-    match &mark.what {
-        What::Glyph(font, 655_360, glyph) => font.bytes() == name && *glyph == code,
-        _ => false,
-    }
+// What a mark shows: the name of a glyph's font, which has 10 pt, with its code, or a rule.
+#[derive(Clone, Copy)]
+enum Shown<'a> {
+    Glyph(&'a [u8], u32),
+    Rule(i64, i64),
 }
 
-fn is_rule(mark: &Mark, height: i64, width: i64) -> bool {
-    match &mark.what {
-        What::Rule(Sp(ht), Sp(wd)) => *ht == height && *wd == width,
-        _ => false,
+// The page of these marks.
+fn page(
+    alloc: Global,
+    counts: [i32; 10],
+    shown: &[(Shown, i64, i64, Dir)],
+) -> Result<DviPage, Fail> {
+    let mut marks = List::new(alloc);
+    for (what, x, y, dir) in shown {
+        let what = match what {
+            Shown::Glyph(name, code) => { What::Glyph(FileName::new(alloc, name)?, 655_360, *code) }
+            Shown::Rule(height, width) => What::Rule(Sp(*height), Sp(*width)),
+        };
+        let at = Point {
+            x: Sp(*x),
+            y: Sp(*y),
+        };
+        marks.push(Mark {
+            what,
+            at,
+            dir: *dir,
+        })?;
     }
+    Ok(DviPage { counts, marks })
 }
 
-fn stands(mark: &Mark, x: i64, y: i64, dir: Dir) -> bool {
-    mark.at == Point { x: Sp(x), y: Sp(y) } && mark.dir == dir
+// The definitions of these fonts, which have 10 pt.
+fn defined(alloc: Global, named: &[(i32, &[u8])]) -> Result<List<FontDef>, Fail> {
+    let mut fonts = List::new(alloc);
+    for (number, name) in named {
+        fonts.push(FontDef {
+            number: *number,
+            check_sum: 0,
+            size: 655_360,
+            design: 655_360,
+            name: FileName::new(alloc, name)?,
+        })?;
+    }
+    Ok(fonts)
 }
 
 #[test]
 fn a_file_of_two_characters_has_two_marks(rt: HostRuntime) -> Result<(), Fail> {
+    let shown = [
+        (Shown::Glyph(b"jt10", 0x3441), 327_680, 0, Dir::Tate),
+        (Shown::Glyph(b"ja10", 0x2422), 0, 1_228_800, Dir::Yoko),
+    ];
+    let page = page(rt.alloc(), [0; 10], &shown)?;
     let pages = read_pages(rt.alloc(), &FILE, &TwoCharacters)?;
-    for page in pages.as_slice() {
-        assert_eq!(rt; page.counts, [0; 10]);
-        assert_eq!(rt; page.marks.as_slice().len(), 2);
-        let [first, last] = page.marks.as_slice() else {
-            return Ok(());
-        };
-        assert!(rt; is_glyph(first, b"jt10", 0x3441) && stands(first, 327_680, 0, Dir::Tate));
-        assert!(rt; is_glyph(last, b"ja10", 0x2422) && stands(last, 0, 1_228_800, Dir::Yoko));
-    }
-    assert_eq!(rt; pages.as_slice().len(), 1);
-    let defined = fonts(rt.alloc(), &FILE)?;
-    assert_eq!(rt; defined.len(), 2);
+    assert!(rt; pages.as_slice() == [page].as_slice());
+    let named: [(i32, &[u8]); 2] = [(0, b"jt10"), (1, b"ja10")];
+    let defined = defined(rt.alloc(), &named)?;
+    assert!(rt; fonts(rt.alloc(), &FILE)?.as_slice() == defined.as_slice());
     assert_eq!(rt; next_command(&FILE, 108), Ok((Command::Set(0x3441), 111)));
     Ok(())
 }
 
 #[test]
 fn each_damage_has_its_fault(rt: HostRuntime) {
+    // up to which byte, the place and the byte that are changed there, and the fault
     let table = [
-        (1, 3, DviKind::Preamble, 0),
-        (59, 0, DviKind::BackPointer, 15),
-        (81, 0, DviKind::FontDef, 80),
-        (100, 0xFA, DviKind::Opcode, 100),
-        (100, 0x8E, DviKind::Stack, 100),
-        (107, 0xAD, DviKind::FontUndefined, 107),
-        (110, 0, DviKind::Width, 108),
-        (127, 0x8A, DviKind::Stack, 128),
-        (133, 0, DviKind::BackPointer, 129),
-        (157, 2, DviKind::Postamble, 129),
-        (203, 4, DviKind::Postamble, 198),
-        (205, 0, DviKind::Postamble, 205),
-        (102, 2, DviKind::Direction, 101),
+        (208, 0, 0xFA, DviKind::Opcode, 0),
+        (208, 0, 0x8A, DviKind::Preamble, 0),
+        (208, 1, 3, DviKind::Preamble, 0),
+        (208, 59, 0, DviKind::BackPointer, 15),
+        (208, 81, 0, DviKind::FontDef, 80),
+        (208, 100, 0xFA, DviKind::Opcode, 100),
+        (208, 100, 0x8E, DviKind::Stack, 100),
+        (208, 102, 2, DviKind::Direction, 101),
+        (208, 107, 0xAD, DviKind::FontUndefined, 107),
+        (208, 110, 0, DviKind::Width, 108),
+        (208, 127, 0x8A, DviKind::Stack, 128),
+        (208, 133, 0, DviKind::BackPointer, 129),
+        (208, 157, 2, DviKind::Postamble, 129),
+        (208, 203, 4, DviKind::Postamble, 198),
+        (208, 205, 0, DviKind::Postamble, 205),
+        (207, 205, 0, DviKind::Postamble, 205),
+        (207, 0, 0xF7, DviKind::Postamble, 207),
+        (14, 1, 3, DviKind::Truncated, 0),
+        (0, 0, 0xF7, DviKind::Truncated, 0),
     ];
-    for (place, byte, kind, at) in table {
+    for (len, place, byte, kind, at) in table {
         let mut bytes = FILE;
         if let Some(there) = bytes.get_mut(place) {
             *there = byte;
         }
-        let fault = read_pages(rt.alloc(), &bytes, &TwoCharacters).err();
-        assert_eq!(rt; fault, Some(DviFault::Bad(DviBad { at, kind })));
+        let bytes = bytes.get(..len).unwrap_or(&FILE);
+        let fault = Some(DviFault::Bad(DviBad { at, kind }));
+        assert_eq!(rt; read_pages(rt.alloc(), bytes, &TwoCharacters).err(), fault);
+        let of_the_structure = if kind == DviKind::Width { None } else { fault };
+        assert_eq!(rt; fonts(rt.alloc(), bytes).err(), of_the_structure);
     }
-    for (len, kind, at) in [(0, DviKind::Truncated, 0), (207, DviKind::Postamble, 207)] {
-        if let Some(bytes) = FILE.get(..len) {
-            let fault = read_pages(rt.alloc(), bytes, &TwoCharacters).err();
-            assert_eq!(rt; fault, Some(DviFault::Bad(DviBad { at, kind })));
-        }
-    }
+}
+
+// No page, but a definition with an area, between two nops.
+const EMPTY: [u8; 76] = [
+    247, 2, 1, 131, 146, 192, 28, 59, 0, 0, 0, 0, 3, 232, 0, 138, 243, 0, 0, 0, 0, 0, 0, 10, 0, 0,
+    0, 10, 0, 0, 1, 1, 102, 97, 138, 248, 255, 255, 255, 255, 1, 131, 146, 192, 28, 59, 0, 0, 0, 0,
+    3, 232, 0, 0, 0, 0, 0, 0, 0, 0, 0, 0, 0, 0, 249, 0, 0, 0, 35, 2, 223, 223, 223, 223, 223, 223,
+];
+
+#[test]
+fn a_file_may_have_no_page(rt: HostRuntime) -> Result<(), Fail> {
+    assert_eq!(rt; read_pages(rt.alloc(), &EMPTY, &TwoCharacters)?.len(), 0);
+    let defined = defined(rt.alloc(), &[(0, b"fa")])?;
+    assert!(rt; fonts(rt.alloc(), &EMPTY)?.as_slice() == defined.as_slice());
+    let mut bytes = EMPTY;
+    bytes[63] = 1;
+    let fault = read_pages(rt.alloc(), &bytes, &TwoCharacters).err();
+    let kind = DviKind::Postamble;
+    assert_eq!(rt; fault, Some(DviFault::Bad(DviBad { at: 35, kind })));
+    Ok(())
 }
 
 // Every command, in three directions, with its second page at the end of the range.
@@ -169,41 +221,48 @@ impl Widths for Wide {
 
 #[test]
 fn every_command_is_read(rt: HostRuntime) -> Result<(), Fail> {
-    let glyphs = [
-        (b"fa", 65, 0, 0, Dir::Yoko),
-        (b"fa", 200, 655_360, 0, Dir::Yoko),
-        (b"fa", 0x2422, 1_310_720, 0, Dir::Yoko),
-        (b"fa", 0x1_0000, 1_966_080, 0, Dir::Yoko),
-        (b"fa", 0xFF00_0000, 2_621_440, 0, Dir::Yoko),
-        (b"fa", 66, 3_276_800, 0, Dir::Yoko),
-        (b"fa", 67, 3_276_800, 0, Dir::Yoko),
-        (b"fa", 68, 3_276_800, 0, Dir::Yoko),
-        (b"fa", 69, 3_276_800, 0, Dir::Yoko),
-        (b"fb", 0, 3_276_813, 17, Dir::Tate),
-        (b"fb", 1, 3_276_811, 655_382, Dir::Dtou),
-        (b"fb", 2, 3_276_810, 0, Dir::Yoko),
+    let shown = [
+        (Shown::Glyph(b"fa", 65), 0, 0, Dir::Yoko),
+        (Shown::Glyph(b"fa", 200), 655_360, 0, Dir::Yoko),
+        (Shown::Glyph(b"fa", 0x2422), 1_310_720, 0, Dir::Yoko),
+        (Shown::Glyph(b"fa", 0x1_0000), 1_966_080, 0, Dir::Yoko),
+        (Shown::Glyph(b"fa", 0xFF00_0000), 2_621_440, 0, Dir::Yoko),
+        (Shown::Glyph(b"fa", 66), 3_276_800, 0, Dir::Yoko),
+        (Shown::Glyph(b"fa", 67), 3_276_800, 0, Dir::Yoko),
+        (Shown::Glyph(b"fa", 68), 3_276_800, 0, Dir::Yoko),
+        (Shown::Glyph(b"fa", 69), 3_276_800, 0, Dir::Yoko),
+        (Shown::Rule(2, 3), 3_276_800, 0, Dir::Yoko),
+        (Shown::Rule(4, 5), 3_276_803, 0, Dir::Yoko),
+        (Shown::Glyph(b"fb", 0), 3_276_813, 17, Dir::Tate),
+        (Shown::Glyph(b"fb", 1), 3_276_811, 655_382, Dir::Dtou),
+        (Shown::Glyph(b"fb", 2), 3_276_810, 0, Dir::Yoko),
     ];
+    let first = page(rt.alloc(), [1, -2, 3, 4, 5, 6, 7, 8, 9, 10], &shown)?;
+    let last = page(rt.alloc(), [0; 10], &[])?;
     let pages = read_pages(rt.alloc(), &EVERY, &Wide)?;
-    assert_eq!(rt; pages.as_slice().len(), 2);
-    let [first, last] = pages.as_slice() else {
-        return Ok(());
-    };
-    assert_eq!(rt; first.counts, [1, -2, 3, 4, 5, 6, 7, 8, 9, 10]);
-    let marks = first.marks.as_slice();
-    assert_eq!(rt; marks.len(), 14);
-    let rules = marks.iter().skip(9).take(2);
-    for (mark, (height, width, x)) in rules.zip([(2, 3, 3_276_800), (4, 5, 3_276_803)]) {
-        assert!(rt; is_rule(mark, height, width) && stands(mark, x, 0, Dir::Yoko));
-    }
-    let set = marks.iter().take(9).chain(marks.iter().skip(11));
-    for (mark, (name, code, x, y, dir)) in set.zip(glyphs) {
-        assert!(rt; is_glyph(mark, name, code) && stands(mark, x, y, dir));
-    }
-    assert_eq!(rt; last.marks.as_slice().len(), 0);
+    assert!(rt; pages.as_slice() == [first, last].as_slice());
+    Ok(())
+}
+
+#[test]
+fn numbers_of_fonts_have_up_to_four_bytes(rt: HostRuntime) -> Result<(), Fail> {
+    let named: [(i32, &[u8]); 5] = [
+        (0, b"fa"),
+        (7, b"fb"),
+        (256, b"fc"),
+        (65_536, b"fd"),
+        (-1, b"fe"),
+    ];
+    let defined = defined(rt.alloc(), &named)?;
+    assert!(rt; fonts(rt.alloc(), &EVERY)?.as_slice() == defined.as_slice());
+    Ok(())
+}
+
+#[test]
+fn coordinates_stay_in_range(rt: HostRuntime) {
     let mut bytes = EVERY;
     bytes[435] = 1;
     let fault = read_pages(rt.alloc(), &bytes, &Wide).err();
     let kind = DviKind::Range;
     assert_eq!(rt; fault, Some(DviFault::Bad(DviBad { at: 434, kind })));
-    Ok(())
 }

@@ -1,6 +1,8 @@
 //! Names of files.
 
-ghost use Rattle.std.specs.Prelude.{◌≡◌, ◌↔◌, ◌++◌, ◌||◌, if◌then◌else◌, IsTrue, false, IfOk};
+ghost use Rattle.std.specs.Prelude.{◌≡◌, ◌↔◌, ◌++◌, ◌||◌, if◌then◌else◌, IsTrue, false, nat_eq, IfOk};
+ghost use Rattle.std.specs.Cmp.{nat_eq_equiv, partial_equiv_from_equiv};
+ghost use Rattle.std.specs.Cmp.Lexicographic.{pointwise, lists_equiv};
 ghost use Rattle.std.specs.List.{list_all, list_any};
 ghost use Rattle.ts_outside.specs.Endings.{is_dot, is_slash, last_part, with_ending};
 ghost use Rattle.ts_base.specs.Agreement.{Agrees};
@@ -30,6 +32,20 @@ impl Model for FileName {
     ghost view = { λ n. n.bytes.items };
 
     ghost invariant = { λ n. IsTrue (is_file_name n.bytes.items) };
+}
+
+impl PartialEq for FileName {
+    ghost eq = { pointwise nat_eq };
+
+    ghost laws = { partial_equiv_from_equiv (lists_equiv nat_eq_equiv) };
+
+    fn eq(&self, other: &FileName) -> bool {
+        self.bytes() == other.bytes()
+    }
+}
+
+impl Eq for FileName {
+    ghost laws = { lists_equiv nat_eq_equiv };
 }
 
 /// Why a text is no name of a file.
