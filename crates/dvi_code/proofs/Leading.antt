@@ -5,8 +5,8 @@ use Rattle.dvi_code.specs.declared.font.FontDef.{FontDef}
 use Rattle.dvi_code.specs.Commands as c
 use Rattle.dvi_code.specs.Commands.{Command, Definition, command}
 use Rattle.dvi_code.specs.Places.{Placed, said, fill, is_last, placed}
-use Rattle.dvi_code.specs.Structure.{Shape, walk, obeyed, Inside, inside, in_page, within}
-use Rattle.dvi_code.specs.Reading.{Spells, Leads, all_inside}
+use Rattle.dvi_code.specs.Structure.{Shape, walk, obeyed, Inside, inside, in_page}
+use Rattle.dvi_code.specs.Reading.{Spells, Leads, all_inside, paged}
 use Rattle.dvi_code.proofs.Stable.{Stable-command, bound}
 
 -- ---- places
@@ -57,10 +57,6 @@ Leads-then at s t u x y p q = record {
 pub Leads-one : (at : ℕ) (s t : Shape) (front : List ℕ) (cmd : Command) → command front ≡ Ok (cmd, []) → is_last cmd ≡ false → obeyed s s.phase at cmd ≡ Ok t → Leads at s front t
 unfolding walk
 Leads-one at s t front cmd e last does = record { on = λ more. rw (first_placed front cmd at more e last, does) refl }
-
--- a structure within a page
-abbrev pub paged : Shape → List ℤ → List Command → List ℕ → Inside → Shape
-paged s counts body places i = record { last = s.last; fonts = s.fonts; sheets = s.sheets; phase = within counts body places i }
 
 -- post_post isn't a command of a page, nor are eop and a definition among those of its body
 not_last : (fonts : List FontDef) (i j : Inside) (cmd : Command) → inside fonts i cmd ≡ Ok j → is_last cmd ≡ false

@@ -14,4 +14,4 @@ pub mod Pens
 pub mod Straight
 pub mod PageReads
 pub mod Whole
-pub mod LawProofs
+pub mod Writing

@@ -12,7 +12,8 @@ use Rattle.ts_base.specs.Agreement.{◌>>=◌}
 use Rattle.dvi_code.specs.declared.font.FontDef.{FontDef}
 use Rattle.dvi_code.specs.Fields.{Field, text, value_after, unsigned, with_sign, signed, font_number}
 use Rattle.dvi_code.specs.Commands as c
-use Rattle.dvi_code.specs.Commands.{Command, Definition, Postamble, command, command_after, mark_after, group_after, right_after, down_after, font_after, font_def_after, file_after, post_after}
+use Rattle.dvi_code.specs.Commands.{Command, Postamble, command, command_after, mark_after, group_after, right_after, down_after, font_after, font_def_after, file_after, post_after}
+use Rattle.dvi_code.specs.Reading.{four, plain_definition}
 
 -- ---- numbers
 
@@ -60,10 +61,6 @@ unsigned-again k n rest lt =
     let v : value_after 0 (bytes_high_first k n) ≡ n = value-bytes k n 0 ∙ whole n (256 ^ k) lt in
     rw (t, v) refl
 
--- a signed number of four bytes
-abbrev pub four : ℤ → List ℕ
-four z = bytes_high_first 4 (cast_unsigned w32 z)
-
 with_sign-again : (z : ℤ) → FitsSigned w32 z → with_sign 4 (cast_unsigned w32 z) ≡ z
 with_sign-again (pos n) fits = grind (arith, ints)
 with_sign-again (negsuc n) fits = grind (arith, ints)
@@ -110,10 +107,6 @@ says_eop = refl
 pub says_post_post : (at : ℤ) (id : ℕ) → FitsSigned w32 at → command (249 ∷ (four at ++ id ∷ [])) ≡ Ok (c.post_post at id, [])
 unfolding command command_after file_after
 says_post_post at id fits = rw (signed-again at (id ∷ []) fits) refl
-
--- a definition whose area is empty
-abbrev pub plain_definition : FontDef → Definition
-plain_definition f = record { number = f.number; check_sum = f.check_sum; size = f.size; design = f.design; area = []; name = f.name }
 
 pub says_font_def : (f : FontDef) (number : ℕ) → f.number ≡ pos number → number < 256 → f.check_sum < 2 ^ 32 → f.size < 2 ^ 32 → f.design < 2 ^ 32
     → command (243 ∷ number ∷ (bytes_high_first 4 f.check_sum ++ (bytes_high_first 4 f.size ++ (bytes_high_first 4 f.design ++ 0 ∷ length f.name ∷ f.name)))) ≡ Ok (c.font_def (plain_definition f), [])

@@ -1,45 +1,86 @@
-//! Laws of what DVI files mean, for those who write them.
+//! Laws of what DVI files mean, for those who write them. The lemmas that proofs cite for them
+//! stand in `proofs/Writing.antt`.
 
-ghost use Rattle.dvi_code.specs.Laws.{WholePagesAreFirst, CommandsStay, SpellingsJoin, CommandsLead, BytesLeadOn, CommandsDrawOn, DefinitionsStay};
+ghost use Rattle.dvi_code.specs.Laws.{WholePagesAreFirst, CommandsStay, SpellingsJoin, CommandsLead, BytesLeadOn, CommandsDrawOn, DefinitionsStay, BodiesJoin, BodiesLead, LastPlaced, SaysPush, SaysPop, SaysEop, SaysRight, SaysDown, SaysSet, SaysFontDef, SaysPost, SaysPostPost, NothingDrawn, OneDrawn, ShortNamesSound};
 
 /// The whole pages of a prefix of a file, those whose eop is in it, are the first of its pages.
-#[tactic(auto, using(crate::proofs::LawProofs::whole_pages_are_first, std::proofs::lemmas::Grind::common_steps))]
+#[tactic(auto, using(crate::proofs::Writing::whole_pages_are_first, std::proofs::lemmas::Grind::common_steps))]
 pub fn whole_pages_are_the_first()
     ensures { WholePagesAreFirst }
 {}
 
 /// A command that is read is read again whatever follows its bytes.
-#[tactic(auto, using(crate::proofs::LawProofs::commands_stay, std::proofs::lemmas::Grind::common_steps))]
+#[tactic(auto, using(crate::proofs::Writing::commands_stay, std::proofs::lemmas::Grind::common_steps))]
 pub fn commands_stay()
     ensures { CommandsStay }
 {}
 
 /// Bytes that say commands say both where they are joined.
-#[tactic(auto, using(crate::proofs::LawProofs::spellings_join, std::proofs::lemmas::Grind::common_steps))]
+#[tactic(auto, using(crate::proofs::Writing::spellings_join, std::proofs::lemmas::Grind::common_steps))]
 pub fn spellings_join()
     ensures { SpellingsJoin }
 {}
 
 /// A command of a file leads from one structure to the next.
-#[tactic(auto, using(crate::proofs::LawProofs::commands_lead, std::proofs::lemmas::Grind::common_steps))]
+#[tactic(auto, using(crate::proofs::Writing::commands_lead, std::proofs::lemmas::Grind::common_steps))]
 pub fn commands_lead()
     ensures { CommandsLead }
 {}
 
 /// Bytes lead on from where those before them led.
-#[tactic(auto, using(crate::proofs::LawProofs::bytes_lead_on, std::proofs::lemmas::Grind::common_steps))]
+#[tactic(auto, using(crate::proofs::Writing::bytes_lead_on, std::proofs::lemmas::Grind::common_steps))]
 pub fn bytes_lead_on()
     ensures { BytesLeadOn }
 {}
 
 /// Commands draw on from where those before them drew.
-#[tactic(auto, using(crate::proofs::LawProofs::commands_draw_on, std::proofs::lemmas::Grind::common_steps))]
+#[tactic(auto, using(crate::proofs::Writing::commands_draw_on, std::proofs::lemmas::Grind::common_steps))]
 pub fn commands_draw_on()
     ensures { CommandsDrawOn }
 {}
 
 /// A number that is defined keeps its definition.
-#[tactic(auto, using(crate::proofs::LawProofs::definitions_stay, std::proofs::lemmas::Grind::common_steps))]
+#[tactic(auto, using(crate::proofs::Writing::definitions_stay, std::proofs::lemmas::Grind::common_steps))]
 pub fn definitions_stay()
     ensures { DefinitionsStay }
+{}
+
+/// Commands that are right within a page join, and bytes that say such commands lead on within it.
+#[tactic(auto, using(crate::proofs::Writing::bodies_join, crate::proofs::Writing::bodies_lead, std::proofs::lemmas::Grind::common_steps))]
+pub fn bodies_lead_on()
+    ensures join { BodiesJoin }
+    ensures lead { BodiesLead }
+{}
+
+/// post_post is the last command of a file, and the fill comes after it.
+#[tactic(auto, using(crate::proofs::Writing::last_placed, std::proofs::lemmas::Grind::common_steps))]
+pub fn the_last_is_placed()
+    ensures { LastPlaced }
+{}
+
+/// What the bytes of each command say that a writer needs.
+#[tactic(auto, using(crate::proofs::Writing::says_push, crate::proofs::Writing::says_pop, crate::proofs::Writing::says_eop, crate::proofs::Writing::says_right, crate::proofs::Writing::says_down, crate::proofs::Writing::says_set, crate::proofs::Writing::says_font_def, crate::proofs::Writing::says_post, crate::proofs::Writing::says_post_post, std::proofs::lemmas::Grind::common_steps))]
+pub fn bytes_say_commands()
+    ensures push { SaysPush }
+    ensures pop { SaysPop }
+    ensures eop { SaysEop }
+    ensures right { SaysRight }
+    ensures down { SaysDown }
+    ensures set { SaysSet }
+    ensures font_def { SaysFontDef }
+    ensures post { SaysPost }
+    ensures post_post { SaysPostPost }
+{}
+
+/// No command leaves the pen as it is, and one before others draws before them.
+#[tactic(auto, using(crate::proofs::Writing::nothing_drawn, crate::proofs::Writing::one_drawn, std::proofs::lemmas::Grind::common_steps))]
+pub fn commands_draw()
+    ensures none { NothingDrawn }
+    ensures one { OneDrawn }
+{}
+
+/// A name of at most 251 bytes leaves room for the ending of a metric file.
+#[tactic(auto, using(crate::proofs::Writing::short_names_sound, std::proofs::lemmas::Grind::common_steps))]
+pub fn short_names_are_sound()
+    ensures { ShortNamesSound }
 {}

@@ -16,9 +16,7 @@ use Rattle.dvi_code.specs.Commands.{Command}
 use Rattle.dvi_code.specs.Structure.{Inside, inside}
 use Rattle.dvi_code.specs.Pages.{Widths, Pen, Spot, spot, drawn, moved, is_in_range, stepped, glyph_set}
 use Rattle.dvi_code.specs.Reading.{Spells, all_inside, Draws}
-use Rattle.dvi_code.proofs.Leading.{all_inside-append, Spells-append}
-use Rattle.dvi_code.proofs.Drawing.{Draws-nil, Draws-cons, Draws-append}
-use Rattle.dvi_code.proofs.Saying.{says_push, says_right, says_down, says_set, says_pop}
+use Rattle.dvi_code.proofs.Writing.{bodies_join, spellings_join, nothing_drawn, one_drawn, commands_draw_on, says_push, says_right, says_down, says_set, says_pop}
 use Rattle.ts_job.specs.declared.writer.page.Glyph.{Glyph}
 use Rattle.ts_job.specs.Written.{right_bytes, down_bytes, set_bytes, glyph_bytes}
 use Rattle.std.specs.Option.{IsSomeAnd}
@@ -62,7 +60,7 @@ glyph_spelt g fits =
 pub glyphs_spelt : (gs : List Glyph) → AllByRecursion FitsGlyph gs → Spells (flat_map glyph_bytes gs) (flat_map glyph_said gs)
 glyphs_spelt [] fits = refl
 glyphs_spelt (g ∷ gs) fits =
-    rw (flat_map-cons glyph_bytes g gs) (Spells-append (glyph_said g) (flat_map glyph_said gs) (glyph_bytes g) (flat_map glyph_bytes gs) (glyph_spelt g fits.0) (glyphs_spelt gs fits.1))
+    rw (flat_map-cons glyph_bytes g gs) (spellings_join (glyph_said g) (flat_map glyph_said gs) (glyph_bytes g) (flat_map glyph_bytes gs) (glyph_spelt g fits.0) (glyphs_spelt gs fits.1))
 
 length-glyph : (g : Glyph) → length (glyph_bytes g) ≡ 15
 unfolding glyph_bytes
@@ -88,7 +86,7 @@ glyph_inside fonts g = refl
 pub glyphs_inside : (fonts : List FontDef) (gs : List Glyph) → all_inside fonts (record { depth = 0; chosen = true }) (flat_map glyph_said gs) ≡ Ok (record { depth = 0; chosen = true })
 glyphs_inside fonts [] = refl
 glyphs_inside fonts (g ∷ gs) =
-    ap (λ (cs : List Command). all_inside fonts chosen cs) (flat_map-cons glyph_said g gs) ∙ all_inside-append fonts (glyph_said g) (flat_map glyph_said gs) chosen chosen chosen (glyph_inside fonts g) (glyphs_inside fonts gs)
+    ap (λ (cs : List Command). all_inside fonts chosen cs) (flat_map-cons glyph_said g gs) ∙ bodies_join fonts (glyph_said g) (flat_map glyph_said gs) chosen chosen chosen (glyph_inside fonts g) (glyphs_inside fonts gs)
 
 -- ---- the marks
 
@@ -143,16 +141,16 @@ glyph_drawn widths fonts f g marks fits wide =
     let p4 : Pen = pen set.0 y saved font (((marks ++ []) ++ []) ++ mark_meant f g ∷ []) in
     let p5 : Pen = pen (pos 0) (pos 0) [] font (((marks ++ []) ++ []) ++ mark_meant f g ∷ []) in
     let all : Draws widths fonts p0 (glyph_said g) p5 =
-    Draws-cons widths fonts p0 p1 _ _ _ refl (Draws-cons widths fonts p1 p2 _ _ _ e2 (Draws-cons widths fonts p2 p3 _ _ _ e3 (Draws-cons widths fonts p3 p4 _ _ _ set.1 (Draws-cons widths fonts p4 p5 _ _ _ refl (Draws-nil widths fonts p5))))) in
+    one_drawn widths fonts p0 p1 _ _ _ refl (one_drawn widths fonts p1 p2 _ _ _ e2 (one_drawn widths fonts p2 p3 _ _ _ e3 (one_drawn widths fonts p3 p4 _ _ _ set.1 (one_drawn widths fonts p4 p5 _ _ _ refl (nothing_drawn widths fonts p5))))) in
     let same : (marks ++ []) ++ [] ≡ marks = append-nil (marks ++ []) ∙ append-nil marks in
     subst (λ (ms : List Mark). Draws widths fonts p0 (glyph_said g) (pen (pos 0) (pos 0) [] font (ms ++ mark_meant f g ∷ []))) same all
 
 pub glyphs_drawn : (widths : Widths) (fonts : List FontDef) (f : FontDef) (gs : List Glyph) (marks : List Mark) → AllByRecursion FitsGlyph gs → AllByRecursion (λ g. IsSomeAnd (widths f g.code) (λ width. IsWithin max_dimen width.0)) gs
     → Draws widths fonts (pen (pos 0) (pos 0) [] (Some f) marks) (flat_map glyph_said gs) (pen (pos 0) (pos 0) [] (Some f) (marks ++ map (mark_meant f) gs))
-glyphs_drawn widths fonts f [] marks fits wide = rw (append-nil marks) (Draws-nil widths fonts (pen (pos 0) (pos 0) [] (Some f) marks))
+glyphs_drawn widths fonts f [] marks fits wide = rw (append-nil marks) (nothing_drawn widths fonts (pen (pos 0) (pos 0) [] (Some f) marks))
 glyphs_drawn widths fonts f (g ∷ gs) marks fits wide =
     let first = glyph_drawn widths fonts f g marks fits.0 wide.0 in
     let others = glyphs_drawn widths fonts f gs (marks ++ mark_meant f g ∷ []) fits.1 wide.1 in
-    let all = Draws-append widths fonts _ _ _ (glyph_said g) (flat_map glyph_said gs) first others in
+    let all = commands_draw_on widths fonts _ _ _ (glyph_said g) (flat_map glyph_said gs) first others in
     let same : (marks ++ mark_meant f g ∷ []) ++ map (mark_meant f) gs ≡ marks ++ mark_meant f g ∷ map (mark_meant f) gs = append_assoc marks (mark_meant f g ∷ []) (map (mark_meant f) gs) in
     rw (flat_map-cons glyph_said g gs) (subst (λ (ms : List Mark). Draws widths fonts (pen (pos 0) (pos 0) [] (Some f) marks) (glyph_said g ++ flat_map glyph_said gs) (pen (pos 0) (pos 0) [] (Some f) ms)) same all)

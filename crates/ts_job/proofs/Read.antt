@@ -19,10 +19,8 @@ use Rattle.dvi_code.specs.Commands.{Command, Preamble, Postamble, command, comma
 use Rattle.dvi_code.specs.Places.{said, fill, placed}
 use Rattle.dvi_code.specs.Structure.{is_sound_font, is_same_font, Sheet, Shape, Walked, inside, fresh, start, between, behind, ended, at_start, at_gap, in_page, at_back, filled, walk, walked, answer}
 use Rattle.dvi_code.specs.Pages.{Widths, Pen, clean, spot, drawn, page_of, page_from, pages_of, file_pages}
-use Rattle.dvi_code.specs.Reading.{Spells, Leads, all_inside}
-use Rattle.dvi_code.proofs.Leading.{Leads-then, Leads-one, Leads-body, paged, last_placed}
-use Rattle.dvi_code.proofs.Drawing.{Draws-cons}
-use Rattle.dvi_code.proofs.Saying.{plain_definition, says_eop, says_font_def, says_post, says_post_post}
+use Rattle.dvi_code.specs.Reading.{Spells, Leads, all_inside, paged, plain_definition}
+use Rattle.dvi_code.proofs.Writing.{bytes_lead_on, commands_lead, bodies_lead, last_placed, one_drawn, says_eop, says_font_def, says_post, says_post_post}
 use Rattle.ts_job.specs.declared.writer.page.Glyph.{Glyph}
 use Rattle.ts_job.specs.Written.{HasNumbers, unit_bytes, preamble_bytes, bop_bytes, definition_bytes, glyph_bytes, page_bytes, post_bytes, post_post_bytes, fill_count, closing_bytes, end_bytes, file_bytes}
 use Rattle.std.specs.Option.{IsSomeAnd}
@@ -120,16 +118,16 @@ page_leads f gs at number sound has fits =
     let glyphs : List ℕ = 171 ∷ [] ++ flat_map glyph_bytes gs in
     let at1 : ℕ = at + length bop_bytes in
     let at2 : ℕ = at1 + length (definition_bytes f) in
-    let first : Leads at s0 bop_bytes s1 = Leads-one at s0 s1 bop_bytes _ says_bop refl (opened at) in
-    let second : Leads at1 s1 (definition_bytes f) s2 = Leads-one at1 s1 s2 (definition_bytes f) _ (says_definition f number has) refl (font_defined f at at1 sound) in
+    let first : Leads at s0 bop_bytes s1 = commands_lead at s0 s1 bop_bytes _ says_bop refl (opened at) in
+    let second : Leads at1 s1 (definition_bytes f) s2 = commands_lead at1 s1 s2 (definition_bytes f) _ (says_definition f number has) refl (font_defined f at at1 sound) in
     let spelt : Spells glyphs (body gs) = (171 ∷ [], flat_map glyph_bytes gs, refl, says_font, glyphs_spelt gs fits) in
-    let third = Leads-body (body gs) (gap (pos at) (f ∷ []) []) zeros [] [] fresh (record { depth = 0; chosen = true }) at2 glyphs spelt (body_inside f gs number) in
+    let third = bodies_lead (body gs) (gap (pos at) (f ∷ []) []) zeros [] [] fresh (record { depth = 0; chosen = true }) at2 glyphs spelt (body_inside f gs number) in
     let places : List ℕ = third.0 in
     let s3 : Shape = paged (gap (pos at) (f ∷ []) []) zeros (body gs) places (record { depth = 0; chosen = true }) in
     let s4 : Shape = gap (pos at) (f ∷ []) (sheet f gs places ∷ []) in
     let at3 : ℕ = at2 + length glyphs in
-    let fourth : Leads at3 s3 (140 ∷ []) s4 = Leads-one at3 s3 s4 (140 ∷ []) _ says_eop refl (page_ends f gs at at3 places) in
-    let all : Leads at s0 (bop_bytes ++ (definition_bytes f ++ (glyphs ++ 140 ∷ []))) s4 = Leads-then at s0 s1 s4 bop_bytes _ first (Leads-then at1 s1 s2 s4 (definition_bytes f) _ second (Leads-then at2 s2 s3 s4 glyphs _ third.1 fourth)) in
+    let fourth : Leads at3 s3 (140 ∷ []) s4 = commands_lead at3 s3 s4 (140 ∷ []) _ says_eop refl (page_ends f gs at at3 places) in
+    let all : Leads at s0 (bop_bytes ++ (definition_bytes f ++ (glyphs ++ 140 ∷ []))) s4 = bytes_lead_on at s0 s1 s4 bop_bytes _ first (bytes_lead_on at1 s1 s2 s4 (definition_bytes f) _ second (bytes_lead_on at2 s2 s3 s4 glyphs _ third.1 fourth)) in
     let grouped : bop_bytes ++ (definition_bytes f ++ (glyphs ++ 140 ∷ [])) ≡ bop_bytes ++ definition_bytes f ++ 171 ∷ [] ++ flat_map glyph_bytes gs ++ 140 ∷ [] = sym (simp append_assoc) in
     (places, subst (λ (x : List ℕ). Leads at s0 x s4) grouped all)
 
@@ -191,8 +189,8 @@ ends f s post high wide number has lt h w =
     let at3 : ℕ = at2 + length b in
     let s1 : Shape = gap (pos 15) (f ∷ []) (s ∷ []) in
     let s2 : Shape = closing (f ∷ []) (s ∷ []) post in
-    let first : Leads post s1 a s2 = Leads-one post s1 s2 a _ (says_closing high wide h w) refl (post_comes (f ∷ []) s post high wide) in
-    let second : Leads at1 s2 d s2 = Leads-one at1 s2 s2 d _ (says_definition f number has) refl (defined_again f (s ∷ []) post) in
+    let first : Leads post s1 a s2 = commands_lead post s1 s2 a _ (says_closing high wide h w) refl (post_comes (f ∷ []) s post high wide) in
+    let second : Leads at1 s2 d s2 = commands_lead at1 s2 s2 d _ (says_definition f number has) refl (defined_again f (s ∷ []) post) in
     let two = last_placed b (pos post) 2 at2 x (says_last post lt) in
     let place : post + length (a ++ d ++ b) ≡ at3 = omega (arith, length-append (a ++ d) b, length-append a d) in
     let most = enough (post + length (a ++ d ++ b)) in
@@ -221,7 +219,7 @@ unfolding drawn
 page_drawn widths f gs places number fits wide =
     let chosen : Pen = record { spot = spot (pos 0) (pos 0) Yoko; saved = []; chosen = Some f; marks = [] } in
     let font : drawn widths (f ∷ []) clean (c.font (pos 0)) ≡ Ok chosen = rw number refl in
-    let all = Draws-cons widths (f ∷ []) clean chosen _ _ _ font (glyphs_drawn widths (f ∷ []) f gs [] fits wide) in
+    let all = one_drawn widths (f ∷ []) clean chosen _ _ _ font (glyphs_drawn widths (f ∷ []) f gs [] fits wide) in
     ap (page_from (sheet f gs places)) (all.on 0)
 
 pub file_read : (widths : Widths) (f : FontDef) (gs : List Glyph) (high wide : ℕ) → f.number ≡ pos 0 → is_sound_font f ≡ true → HasNumbers f → length gs < 2 ^ 16 → high < 2 ^ 32 → wide < 2 ^ 32 → All FitsGlyph gs → HasWidths widths f gs
@@ -233,12 +231,12 @@ file_read widths f gs high wide number sound has few h w fit widths_are =
     let front : List ℕ = preamble_bytes ++ page_bytes f gs in
     let end : List ℕ = end_bytes f (length front) high wide in
     let s1 : Shape = gap (negsuc 0) [] [] in
-    let before : Leads 0 start preamble_bytes s1 = Leads-one 0 start s1 preamble_bytes _ says_preamble refl (began 0) in
+    let before : Leads 0 start preamble_bytes s1 = commands_lead 0 start s1 preamble_bytes _ says_preamble refl (began 0) in
     let page = page_leads f gs (0 + length preamble_bytes) number sound has fits in
     let s : Sheet = sheet f gs page.0 in
     let place : 0 + length preamble_bytes ≡ 15 = zero-add (length preamble_bytes) ∙ length-preamble in
     let on : Leads (0 + length preamble_bytes) s1 (page_bytes f gs) (gap (pos 15) (f ∷ []) (s ∷ [])) = subst (λ (k : ℕ). Leads (0 + length preamble_bytes) s1 (page_bytes f gs) (gap (pos k) (f ∷ []) (s ∷ []))) place page.1 in
-    let both : Leads 0 start front (gap (pos 15) (f ∷ []) (s ∷ [])) = Leads-then 0 start s1 _ preamble_bytes (page_bytes f gs) before on in
+    let both : Leads 0 start front (gap (pos 15) (f ∷ []) (s ∷ [])) = bytes_lead_on 0 start s1 _ preamble_bytes (page_bytes f gs) before on in
     let short : length front < 2 ^ 31 = omega (arith, length-front f gs, short_name f sound) in
     let read : walked (front ++ end) ≡ over (f ∷ []) (s ∷ []) = both.on end ∙ ap (λ (k : ℕ). walk (gap (pos 15) (f ∷ []) (s ∷ [])) (placed k 0 end)) (zero-add (length front)) ∙ ends f s (length front) high wide number has short h w in
     ap (λ (r : Walked). answer r.shape r.fault >>= λ t. pages_of widths t.sheets) read ∙ rw (page_drawn widths f gs page.0 number fits wides) refl
