@@ -6,57 +6,11 @@ ghost use Rattle.ts_outside.specs.Memory.{shelf_state};
 use crate::{Fonts, LoadFault, Metric, load};
 use box_tree::FontNo;
 use jis_codes::Cell;
+use sample_metrics::{JP10, LA10};
 use std::alloc::Global;
 use std::test::Fail;
 use ts_geometry::BadKind;
 use ts_outside::{FileName, FileNo, Files, Got, MemFile, MemFiles, Opened};
-
-// A Japanese font of full width, of a design size of 10 points.
-const JP10: [u32; 24] = [
-    0x000B_0001,
-    0x0018_0002,
-    0,
-    0x0002_0002,
-    0x0002_0001,
-    0,
-    0x0000_0006,
-    0,
-    0x00A0_0000,
-    0,
-    0x0111_0000,
-    0,
-    0x0010_0000,
-    0,
-    0x000E_0000,
-    0,
-    0x0002_0000,
-    0,
-    0,
-    0,
-    0,
-    0,
-    0x0010_0000,
-    0x0010_0000,
-];
-
-// A European font with one character, A, of half the width, of a design size of 10 points.
-const LA10: [u32; 15] = [
-    0x000F_0002,
-    0x0041_0041,
-    0x0002_0001,
-    0x0001_0001,
-    0,
-    1,
-    0,
-    0x00A0_0000,
-    0x0100_0000,
-    0,
-    0x0008_0000,
-    0,
-    0,
-    0,
-    0x0102_0304,
-];
 
 // Files that count the bytes that are read and the files that are open.
 #[derive(Drop)]
@@ -150,12 +104,12 @@ fn a_metric_is_read_whatever_the_pieces(rt: HostRuntime) -> Result<(), Fail> {
         (jp10, &[], 655360, 96),
         (jp10, &[1], 655360, 96),
         (jp10, &[7], 655360, 96),
-        (la10, &[], 327680, 60),
-        (la10, &[1], 327680, 60),
-        (la10, &[7], 327680, 60),
+        (la10, &[], 327680, 544),
+        (la10, &[1], 327680, 544),
+        (la10, &[7], 327680, 544),
     ];
     for (words, cuts, width, read) in table {
-        let mut bytes = bytes_of(rt.alloc(), words, 96, None)?;
+        let mut bytes = bytes_of(rt.alloc(), words, read, None)?;
         // what stands after the metric isn't read
         bytes.extend_from_slice(&[1, 2, 3, 4, 5])?;
         let mut files = one_file(rt.alloc(), bytes, cuts, &[])?;
@@ -218,7 +172,7 @@ fn a_call_that_fails_is_a_fault_and_closes_the_file(rt: HostRuntime) -> Result<(
 
 // The metric of a file of words.
 fn metric(alloc: Global, words: &[u32]) -> Result<Metric, Fail> {
-    let mut files = one_file(alloc, bytes_of(alloc, words, 96, None)?, &[], &[])?;
+    let mut files = one_file(alloc, bytes_of(alloc, words, 544, None)?, &[], &[])?;
     Ok(load(alloc, &mut files, &FileName::new(alloc, b"f.tfm")?)?)
 }
 

@@ -5,79 +5,10 @@ ghost use Rattle.std.specs.Prelude.{◌<◌, ◌^◌};
 use super::*;
 use jis_codes::Cell;
 use metric_words::begins_as_jfm;
+use sample_metrics::{JA10, JP10, JT10};
 use std::alloc::Global;
 use std::test::Fail;
 use ts_geometry::{BadKind, Measures, MetricFault, Sp};
-
-// One class of full width, for yoko, of a design size of 10 points.
-const JP10: [u32; 24] = [
-    0x000B_0001,
-    0x0018_0002,
-    0x0000_0000,
-    0x0002_0002,
-    0x0002_0001,
-    0x0000_0000,
-    0x0000_0006,
-    0x0000_0000,
-    0x00A0_0000,
-    0x0000_0000,
-    0x0111_0000,
-    0x0000_0000,
-    0x0010_0000,
-    0x0000_0000,
-    0x000E_0000,
-    0x0000_0000,
-    0x0002_0000,
-    0x0000_0000,
-    0x0000_0000,
-    0x0000_0000,
-    0x0000_0000,
-    0x0000_0000,
-    0x0010_0000,
-    0x0010_0000,
-];
-
-// Full width but for the opening bracket, of class 1, and the comma and the full stop, of class 2,
-// with glue before the one and after the other.
-const JA10: [u32; 37] = [
-    0x000B_0005,
-    0x0025_0002,
-    0x0000_0002,
-    0x0003_0002,
-    0x0002_0001,
-    0x0003_0000,
-    0x0003_0006,
-    0x0000_0000,
-    0x00A0_0000,
-    0x0000_0000,
-    0x2122_0002,
-    0x2123_0002,
-    0x2156_0001,
-    0x2157_0002,
-    0x0111_0100,
-    0x0211_0000,
-    0x0211_0101,
-    0x0000_0000,
-    0x0010_0000,
-    0x0008_0000,
-    0x0000_0000,
-    0x000E_0000,
-    0x0000_0000,
-    0x0002_0000,
-    0x0000_0000,
-    0x8001_0000,
-    0x0000_0000,
-    0x8001_0000,
-    0x0008_0000,
-    0x0000_0000,
-    0x0008_0000,
-    0x0000_0000,
-    0x0000_0000,
-    0x0000_0000,
-    0x0000_0000,
-    0x0010_0000,
-    0x0010_0000,
-];
 
 fn bytes_of(alloc: Global, words: &[u32]) -> Result<Vec<u8>, Fail> {
     let mut bytes = Vec::new(alloc);
@@ -244,11 +175,7 @@ fn the_first_bad_word_counts(rt: HostRuntime) -> Result<(), Fail> {
 
 #[test]
 fn a_metric_may_be_for_tate(rt: HostRuntime) -> Result<(), Fail> {
-    let mut words = JP10;
-    words[0] = 0x0009_0001;
-    words[14] = 0x0008_0000;
-    words[16] = 0x0008_0000;
-    let font = read_jfm(rt.alloc(), &bytes_of(rt.alloc(), &words)?)?;
+    let font = read_jfm(rt.alloc(), &bytes_of(rt.alloc(), &JT10)?)?;
     assert!(rt; font.is_tate());
     assert_eq!(rt;
         measures_at(&font, cell(16, 1)?, 655360),

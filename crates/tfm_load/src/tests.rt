@@ -2,63 +2,14 @@
 
 use super::*;
 use metric_words::begins_as_jfm;
+use sample_metrics::LA10;
 use std::alloc::Global;
 use std::test::Fail;
 use ts_geometry::{BadKind, Measures, MetricFault, Sp};
 
-// The lengths, the check sum and a design size of 10 points.
-const FRONT: [u32; 8] = [
-    0x0088_0002,
-    0x000C_007A,
-    0x0003_0002,
-    0x0001_0001,
-    0x0002_0001,
-    0x0000_0007,
-    0,
-    0x00A0_0000,
-];
-
-// What follows the characters: f and i join to the character 12, and a has a kern before v.
-const BACK: [u32; 17] = [
-    0,
-    0x0008_0000,
-    0x000C_0000,
-    0,
-    0x000A_0000,
-    0,
-    0,
-    0x8069_000C,
-    0x8076_8000,
-    0xFFFE_0000,
-    0,
-    0x0004_0000,
-    0x0002_0000,
-    0x0001_0000,
-    0x0008_0000,
-    0x0010_0000,
-    0,
-];
-
-// What a metric of letters, digits and the full stop has of a code.
-fn info(code: u8) -> u32 {
-    match code {
-        12 => 0x0210_0000,
-        b'a' => 0x0110_0101,
-        b'f' => 0x0110_0100,
-        b'.' | b'0'..=b'9' | b'A'..=b'Z' | b'b'..=b'e' | b'g'..=b'z' => 0x0110_0000,
-        _ => 0,
-    }
-}
-
 fn la10(alloc: Global) -> Result<Vec<u8>, Fail> {
     let mut bytes = Vec::new(alloc);
-    for word in FRONT {
-        bytes.extend_from_slice(&word.to_be_bytes())?;
-    }
-    for code in 12..=122 {
-        bytes.extend_from_slice(&info(code).to_be_bytes())?;
-    }
-    for word in BACK {
+    for word in LA10 {
         bytes.extend_from_slice(&word.to_be_bytes())?;
     }
     Ok(bytes)
