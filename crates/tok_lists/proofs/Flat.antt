@@ -28,15 +28,15 @@ front_is_shorter args body i =
     let sizes : length (with_arguments args (take i body) ++ with_arguments args (drop i body)) ≡ length (with_arguments args body) = ap length (sym parts ∙ whole) in
     omega (arith, length-append (with_arguments args (take i body)) (with_arguments args (drop i body)), sizes)
 
--- The tokens counted, and those that stand in the place of the next one, are more than the most.
-pub past_the_most : (args : List (List Token)) (body : List Token) (i : ℕ) (token : Token) (counted most : ℕ) → i < length body → token ≡ get_or body i token
-    → counted ≡ length (with_arguments args (take i body)) → counted ≤ most → most - counted < length (in_place args token) → most < length (with_arguments args body)
-past_the_most args body i token counted most within at so_far few more =
+-- The front of a body with the next token, of which what stands in its place is put after what stood there.
+pub next_length : (args : List (List Token)) (body : List Token) (i : ℕ) (token : Token) → i < length body → token ≡ get_or body i token
+    → length (with_arguments args (take (i + 1) body)) ≡ length (with_arguments args (take i body)) + length (in_place args token)
+next_length args body i token within at =
     let front : take (i + 1) body ≡ take i body ++ token ∷ [] = take_more body i token within ∙ ap (λ (t : Token). take i body ++ t ∷ []) (sym at) in
     let parts : with_arguments args (take (i + 1) body) ≡ with_arguments args (take i body) ++ (in_place args token ++ []) =
     ap (with_arguments args) front ∙ flat_map-append (in_place args) (take i body) (token ∷ []) in
     let sizes : length (with_arguments args (take (i + 1) body)) ≡ length (with_arguments args (take i body) ++ (in_place args token ++ [])) = ap length parts in
-    omega (arith, sizes, front_is_shorter args body (i + 1), length-append (with_arguments args (take i body)) (in_place args token ++ []), length-append (in_place args token) [])
+    omega (arith, sizes, length-append (with_arguments args (take i body)) (in_place args token ++ []), length-append (in_place args token) [])
 
 pub held_together : (names : List Spelling) (list pending : List Token) → AreHeld names list → AreHeld names pending → AreHeld names (list ++ pending)
 held_together names [] pending held others = others

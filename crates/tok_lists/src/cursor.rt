@@ -73,31 +73,29 @@ impl Model for Cursor {
     ghost invariant = { λ c. c.left ≡ length (c.argument ++ with_arguments c.args c.body) };
 }
 
-/// How many tokens stand in the place of a token of a body.
-fn length_in_place(args: &[SharedTokens], token: Token) -> usize
-    ensures { result ≡ length (in_place args.now token) }
-{
-    match token {
-        Token::Param(number) => args::argument_length(args, number),
-        _ => 1,
-    }
-}
-
 /// How many tokens a body has with its arguments put in place, or `None` where there are more than
 /// `most`.
 fn length_of_call(body: &[Token], args: &[SharedTokens], most: usize) -> Option<usize>
     ensures { let n = length (with_arguments args.now body.now) in
         result ≡ (if nat_le n most then Some n else None) }
 {
-    let mut length = 0;
+    let mut params = 0;
+    let mut of_arguments = 0;
     for token in body {
-        let more = length_in_place(args, *token);
-        if most - length < more {
-            return None;
+        if let Token::Param(number) = token {
+            let more = args::argument_length(args, *number);
+            if most - of_arguments < more {
+                return None;
+            }
+            params += 1;
+            of_arguments += more;
         }
-        length += more;
     }
-    Some(length)
+    let others = body.len() - params;
+    if most - of_arguments < others {
+        return None;
+    }
+    Some(of_arguments + others)
 }
 
 /// Takes the first token of a body with its arguments put in place, where an argument that it comes
