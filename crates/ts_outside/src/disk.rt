@@ -1,6 +1,7 @@
 //! The files of the disk.
 
-ghost use Rattle.std.specs.Prelude.{◌≡◌, ◌≤◌, ℕ, true, false, None, length, get_or, is_some, IfOk};
+ghost use Rattle.std.specs.Prelude.{◌≡◌, ◌≢◌, ◌↔◌, ◌≤◌, ℕ, true, false, None, length, get_or, is_some, is_err, nat_eq, if◌then◌else◌, IfOk};
+ghost use Rattle.std.specs.IoError.{error_kind};
 
 use crate::files::{FileNo, Files, Got, Opened};
 use crate::name::FileName;
@@ -33,8 +34,33 @@ impl<R: rt::Files + Drop> DiskFiles<R> {
     }
 }
 
+// Returns what the error of an opening means.
+fn not_opened(error: &io::Error) -> Opened
+    ensures missing { (result ≡ Opened.Missing) ↔ (error_kind error.now ≡ ErrorKind.NotFound) }
+    ensures memory { (result ≡ Opened.NoMemory) ↔ (error_kind error.now ≡ ErrorKind.OutOfMemory) }
+    ensures closed { (file : FileNo) → result ≢ Opened.Found file }
+{
+    match error.kind() {
+        ErrorKind::NotFound => Opened::Missing,
+        ErrorKind::OutOfMemory => Opened::NoMemory,
+        _ => Opened::Failed,
+    }
+}
+
+// Returns what the answer of a read means: no byte is the end, and each error a failure.
+pub(crate) fn got_of(read: io::Result<usize>) -> Got
+    ensures got { IfOk read (λ n. result ≡ (if nat_eq n 0 then Got.End else Got.Bytes n)) }
+    ensures failed { is_err read ≡ true → result ≡ Got.Failed }
+{
+    match read {
+        Ok(0) => Got::End,
+        Ok(n) => Got::Bytes(n),
+        Err(_) => Got::Failed,
+    }
+}
+
 // Reads the open file of a number.
-fn read_open<T: Read + Drop>(
+pub(crate) fn read_open<T: Read + Drop>(
     files: &mut Vec<Option<T>>,
     n: usize,
     buffer: &mut [u8],
@@ -62,26 +88,22 @@ impl<R: rt::Files + Drop> Files for DiskFiles<R> {
                 Ok(n) => Opened::Found(FileNo(n)),
                 Err(_) => Opened::NoMemory,
             },
-            Err(error) => match error.kind() {
-                ErrorKind::NotFound => Opened::Missing,
-                ErrorKind::OutOfMemory => Opened::NoMemory,
-                _ => {
+            Err(error) => {
+                let opened = not_opened(&error);
+                if let Opened::Failed = opened {
                     self.faults = count_on(self.faults);
-                    Opened::Failed
                 }
-            },
+                opened
+            }
         }
     }
 
     fn read(&mut self, file: FileNo, buffer: &mut [u8]) -> Got {
-        match read_open(&mut self.files, file.0, buffer) {
-            Ok(0) => Got::End,
-            Ok(n) => Got::Bytes(n),
-            Err(_) => {
-                self.faults = count_on(self.faults);
-                Got::Failed
-            }
+        let got = got_of(read_open(&mut self.files, file.0, buffer));
+        if let Got::Failed = got {
+            self.faults = count_on(self.faults);
         }
+        got
     }
 
     fn close(&mut self, file: FileNo) {

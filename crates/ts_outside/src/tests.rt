@@ -1,3 +1,4 @@
+use crate::disk::{got_of, read_open};
 use crate::{
     DiskFiles, FileName, Files, Got, MemFile, MemFiles, MemSink, NameFault, Opened, Put, PutFault,
     Sink, StreamSink, put_all,
@@ -122,12 +123,59 @@ fn files_of_the_disk(rt: HostRuntime) -> Result<(), Fail> {
     Ok(())
 }
 
+// A reader that gives two bytes and then fails.
 #[derive(Drop)]
-struct Full;
+struct Broken {
+    given: bool,
+}
 
-impl io::Write for Full {
-    fn write(&mut self, _buf: &[u8]) -> io::Result<usize> {
-        Ok(0)
+impl io::Read for Broken {
+    fn read(&mut self, buf: &mut [u8]) -> io::Result<usize> {
+        if self.given || buf.len() < 2 {
+            return Err(io::Error::from(io::ErrorKind::Other));
+        }
+        self.given = true;
+        buf[0] = b'a';
+        buf[1] = b'b';
+        Ok(2)
+    }
+}
+
+#[test]
+fn a_file_that_fails_in_the_middle(rt: HostRuntime) -> Result<(), Fail> {
+    let mut files = vec![in rt.alloc(); Some(Broken { given: false })]?;
+    let mut buffer = [0u8; 4];
+    for want in [Got::Bytes(2), Got::Failed, Got::Failed] {
+        let open = files.get(0).ok_or("no file")?;
+        if open.is_none() {
+            return Err(Fail::from("closed"));
+        }
+        assert_eq!(rt; got_of(read_open(&mut files, 0, &mut buffer)), want);
+    }
+    assert_eq!(rt; buffer, *b"ab\0\0");
+    // a folder can be opened, and each read of it fails
+    let mut files = DiskFiles::new(rt.clone()?, rt.alloc());
+    let Opened::Found(folder) = files.open(&FileName::new(rt.alloc(), b".")?) else {
+        return Err(Fail::from("not found"));
+    };
+    assert_eq!(rt; files.read(folder, &mut buffer), Got::Failed);
+    files.close(folder);
+    Ok(())
+}
+
+// A writer that takes so many bytes of a piece, or fails.
+#[derive(Drop)]
+struct Taking {
+    most: usize,
+    fails: Option<io::ErrorKind>,
+}
+
+impl io::Write for Taking {
+    fn write(&mut self, buf: &[u8]) -> io::Result<usize> {
+        match self.fails {
+            Some(kind) => Err(io::Error::from(kind)),
+            None => Ok(buf.len().min(self.most)),
+        }
     }
 
     fn flush(&mut self) -> io::Result<()> {
@@ -140,6 +188,15 @@ fn sinks_over_writers(rt: HostRuntime) -> Result<(), Fail> {
     let mut held = Vec::new(rt.alloc());
     assert_eq!(rt; put_all(&mut StreamSink::new(&mut held), b"abc"), Ok(()));
     assert_eq!(rt; held.as_slice(), b"abc".as_slice());
-    assert_eq!(rt; StreamSink::new(Full).put(b"abc"), Put::Failed);
+    let table = [
+        (3, None, Put::Took(3)),
+        (1, None, Put::Took(1)),
+        (0, None, Put::Failed),
+        (3, Some(io::ErrorKind::BrokenPipe), Put::Failed),
+        (3, Some(io::ErrorKind::OutOfMemory), Put::NoMemory),
+    ];
+    for (most, fails, want) in table {
+        assert_eq!(rt; StreamSink::new(Taking { most, fails }).put(b"abc"), want);
+    }
     Ok(())
 }
