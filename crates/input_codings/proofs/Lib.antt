@@ -3,4 +3,5 @@ pub mod Ends
 pub mod Decodes
 pub mod Next
 pub mod Spelled
+pub mod Short
 mod Examples

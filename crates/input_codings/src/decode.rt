@@ -123,6 +123,7 @@ pub fn line_chars(
     requires most { count ≤ 65535 }
     ensures exact { Agrees (λ chars. chars) line_cause result
         (closed (decoded coding (the_text_of (nat_lt count (length bytes.now)) (take count bytes.now)))) }
+    ensures short { IfOk result (λ chars. length chars ≤ 65536) }
     ensures quiet { Uncounted line_cause result }
 {
     decode(alloc, coding, text_of(count < bytes.len(), &bytes[..count]))

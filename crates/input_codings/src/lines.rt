@@ -92,12 +92,14 @@ impl Lines {
     }
 
     /// The next line, or none at the end of the file. After a refusal it isn't asked for another.
+    /// A line has at most 65,536 characters, the one that ends it counted.
     pub fn next_line<F: Files>(&mut self, files: &mut F) -> Result<Option<Line>, LineFault>
         requires open { (F.state files.old).is_open self.old.file ≡ true }
         requires unfailed { self.old.failed ≡ false }
         ensures exact { IsSome ((F.state files.old).left self.old.file)
             → Agrees (λ line. (line, unread self.new ((F.state files.new).left self.old.file)))
             line_cause result (next_line (unread self.old ((F.state files.old).left self.old.file))) }
+        ensures short { IfOk result (λ line. IfSome line (λ chars. length chars ≤ 65536)) }
         ensures file { self.new.file ≡ self.old.file }
         ensures coding { self.new.coding ≡ self.old.coding }
         ensures counts { CountsLine result self.old.line_no self.new.line_no }

@@ -28,10 +28,10 @@ IsCharacter (tokens.Name name) = ⊥
 IsCharacter (tokens.Kept name) = ⊥
 IsCharacter (tokens.Param n) = ⊥
 
--- The places of a find are within a line of so many characters, and its token is a character.
-abbrev pub IsInLine : ℕ → Find → Type 0
-IsInLine n (finds.Token token state at) = (at ≤ n) × IsCharacter token
-IsInLine n (finds.Name active from to state) = (from ≤ to) × (to ≤ n)
-IsInLine n finds.Paragraph = Unit {0}
-IsInLine n finds.Invalid = Unit {0}
-IsInLine n finds.Nothing = Unit {0}
+-- The places of a find are at a place or after it, and within a line of so many characters; its token is a character.
+abbrev pub IsInLine : ℕ → ℕ → Find → Type 0
+IsInLine least n (finds.Token token state at) = (least ≤ at) × (at ≤ n) × IsCharacter token
+IsInLine least n (finds.Name active from to state) = (from ≤ to) × (least ≤ to) × (to ≤ n)
+IsInLine least n finds.Paragraph = least ≤ n
+IsInLine least n finds.Invalid = Unit {0}
+IsInLine least n finds.Nothing = Unit {0}

@@ -1,5 +1,5 @@
 -- What the eyes of an open file have before them.
-use Rattle.std.specs.Prelude.{◌≡◌, ℕ, ◌+◌, ◌≤◌, ◌<◌, Bool, true, false, List, [], length, drop, Option, Some, None, Result, Ok, Err}
+use Rattle.std.specs.Prelude.{◌≡◌, ℕ, ◌+◌, ◌-◌, ◌*◌, ◌≤◌, ◌<◌, Bool, true, false, List, [], length, drop, Option, Some, None, Result, Ok, Err}
 use Rattle.ts_base.specs.Agreement.{Cause, Determined, Counted, Free, AgreesFault, ◌>>=◌}
 use Rattle.jis_codes.specs.declared.character.Char.{Char}
 use Rattle.tok_lists.specs.declared.spelling.Spelling.{Spelling}
@@ -64,6 +64,20 @@ IsSeen names (seen.Token (tokens.Name name)) = name.0 < length names
 IsSeen names (seen.Token (tokens.Kept name)) = ⊥
 IsSeen names (seen.Token (tokens.Param n)) = ⊥
 IsSeen names seen.End = Unit {0}
+
+-- how many characters a line has at most, the one that ends it counted
+abbrev pub most_in_line : ℕ
+most_in_line = 65536
+
+-- how many characters may still be seen, whatever the bytes are: the rest of the present line, and the lines after it
+unfoldable pub ahead : ℕ → List Char → ℕ
+ahead line_no rest = (most_lines - line_no) * most_in_line + length rest
+
+-- A token leaves fewer characters that may still be seen, and the end no more.
+abbrev pub Lowers : {E : Type 0} → Result Seen E → ℕ → ℕ → Type 0
+Lowers (Ok (seen.Token token)) old new = new < old
+Lowers (Ok seen.End) old new = new ≤ old
+Lowers (Err fault) old new = Unit {0}
 
 -- What is seen is held by the names, which grew; after a fault they are as they were.
 abbrev pub SeesNames : Result Seen EyeFault → List Spelling → List Spelling → Type 0

@@ -1,13 +1,13 @@
 //! The eyes of an open file.
 
-ghost use Rattle.std.specs.Prelude.{◌≡◌, ◌≢◌, ◌≤◌, ◌+◌, true, false, length, drop, IsSome, Some, Option, is_err, Ok, Err, Bool, Result, OnOk, OnErr, IfOk, IfSome};
+ghost use Rattle.std.specs.Prelude.{◌≡◌, ◌≢◌, ◌≤◌, ◌+◌, true, false, [], length, drop, IsSome, Some, Option, is_err, Ok, Err, Bool, Result, OnOk, OnErr, IfOk, IfSome};
 ghost use Rattle.ts_base.specs.Agreement.{Agrees, Counts, with_fault};
 ghost use Rattle.ts_outside.specs.States.{OpensIfOk, ReadsOn, Closes};
 ghost use Rattle.ts_outside.specs.Reading.{bytes_of};
 ghost use Rattle.input_codings.specs.Reading.{IsReadOn};
 ghost use Rattle.kcat_eyes.specs.Eyes.{next as the_next, at_line};
 ghost use Rattle.kcat_eyes.specs.Finds.{glance_of, IsInLine};
-ghost use Rattle.kcat_eyes.specs.Sights.{line_in, sight_of, eye_cause, look_cause, first_sight, SeesNames};
+ghost use Rattle.kcat_eyes.specs.Sights.{line_in, sight_of, eye_cause, look_cause, first_sight, SeesNames, ahead, Lowers};
 ghost use Rattle.input_codings.specs.Lines.{open_cause};
 
 use crate::fault::EyeFault;
@@ -63,6 +63,7 @@ impl Eyes {
         ensures told { IfOk result (λ eyes. IsSome (F.state files.old).held
             → IsSome ((F.state files.new).left eyes.lines.file)) }
         ensures unfailed { IfOk result (λ eyes. eyes.lines.failed ≡ false) }
+        ensures start { IfOk result (λ eyes. (eyes.lines.line_no ≡ 0) × (eyes.rest ≡ [])) }
         ensures leaves { OpensIfOk (λ eyes. eyes.lines.file) result (F.state files.old)
             (F.state files.new) }
         ensures counted { Counts open_cause result (F.state files.old).faults (F.state files.new).faults }
@@ -106,7 +107,8 @@ impl Eyes {
     }
 
     /// Returns the next token, or the end of the file. After a fault, whose line is `line_no`, it
-    /// isn't asked for another.
+    /// isn't asked for another. How many characters may still be seen falls with each token.
+    #[tactic(auto, unfolding(crate::specs::Sights::ahead))]
     pub fn next<F: Files, C: CodeTable>(
         &mut self,
         files: &mut F,
@@ -120,6 +122,8 @@ impl Eyes {
             (with_fault (at_line self.new.lines.line_no) result) (the_next (C.codes codes.now)
             names.old (sight_of self.old ((F.state files.old).left self.old.lines.file))) }
         ensures lines { IsReadOn self.old.lines self.new.lines }
+        ensures lowers { Lowers result (ahead self.old.lines.line_no self.old.rest)
+            (ahead self.new.lines.line_no self.new.rest) }
         ensures unfailed { OnOk result (self.new.lines.failed ≡ false) }
         ensures names { SeesNames result names.old names.new }
         ensures reads { ReadsOn self.old.lines.file (F.state files.old) (F.state files.new) }

@@ -67,7 +67,7 @@ fn after_symbol<C: CodeTable>(codes: &C, character: Char) -> State
 fn escaped<C: CodeTable>(codes: &C, line: &[Char], at: usize) -> Find
     requires { at ≤ length line.now }
     ensures value { glance_of line.now result ≡ what_is_escaped (C.codes codes.now) (drop at line.now) }
-    ensures places { IsInLine (length line.now) result }
+    ensures places { IsInLine at (length line.now) result }
 {
     let rest = &line[at..];
     match rest {
@@ -82,7 +82,7 @@ fn escaped<C: CodeTable>(codes: &C, line: &[Char], at: usize) -> Find
 // The end of a line of so many characters.
 fn line_end(state: State, line: &[Char]) -> Find
     ensures value { glance_of line.now result ≡ the_line_end state }
-    ensures places { IsInLine (length line.now) result }
+    ensures places { (least : ℕ) → least ≤ length line.now → IsInLine least (length line.now) result }
 {
     match state {
         State::NewLine => Find::Paragraph,
@@ -103,7 +103,7 @@ fn after_brace(state: State) -> State
 // A blank, with the place behind it, where it isn't skipped.
 fn blank(state: State, at: usize) -> Option<Find>
     ensures value { (line : List Char) (skipped : Glance) → or_skipped line result skipped ≡ the_blank state (drop at line) skipped }
-    ensures places { (n : ℕ) → at ≤ n → IfSome result (IsInLine n) }
+    ensures places { (n : ℕ) → at ≤ n → IfSome result (IsInLine at n) }
 {
     match state {
         State::NewLine | State::SkipBlanks => None,
@@ -124,7 +124,7 @@ fn of_category<C: CodeTable>(
     requires here { One code ≡ get_or line.now (at - 1) (One code) }
     ensures value { (skipped : Glance) → or_skipped line.now result skipped
         ≡ what_is_of_category (C.codes codes.now) state code ((C.codes codes.now).cat code) (drop at line.now) skipped }
-    ensures places { IfSome result (IsInLine (length line.now)) }
+    ensures places { IfSome result (IsInLine at (length line.now)) }
 {
     match codes.cat(code) {
         0 => Some(escaped(codes, line, at)),
@@ -146,7 +146,7 @@ fn met<C: CodeTable>(codes: &C, state: State, first: Char, line: &[Char], at: us
     requires here { first ≡ get_or line.now (at - 1) first }
     ensures value { (skipped : Glance) → or_skipped line.now result skipped
         ≡ what_is_met (C.codes codes.now) state first (drop at line.now) skipped }
-    ensures places { IfSome result (IsInLine (length line.now)) }
+    ensures places { IfSome result (IsInLine at (length line.now)) }
 {
     match first {
         Char::One(code) => of_category(codes, state, code, line, at),
@@ -155,10 +155,11 @@ fn met<C: CodeTable>(codes: &C, state: State, first: Char, line: &[Char], at: us
 }
 
 /// What stands next in a line from a place on.
+#[tactic(auto, using(crate::proofs::Places::found_later, std::proofs::lemmas::Grind::common_steps))]
 pub(crate) fn in_line<C: CodeTable>(codes: &C, state: State, line: &[Char], at: usize) -> Find
     requires { at ≤ length line.now }
     ensures value { glance_of line.now result ≡ what_is_in_line (C.codes codes.now) state (drop at line.now) }
-    ensures places { IsInLine (length line.now) result }
+    ensures places { IsInLine (at + 1) (length line.now) result }
 {
     for place in at..line.len() {
         if let Some(find) = met(codes, state, line[place], line, place + 1) {

@@ -1,6 +1,6 @@
 //! The present line.
 
-ghost use Rattle.std.specs.Prelude.{◌≡◌, ◌≢◌, ◌≤◌, length, drop, true, false, Bool, Result, IsSome, is_err};
+ghost use Rattle.std.specs.Prelude.{◌≡◌, ◌≢◌, ◌≤◌, ◌<◌, ◌+◌, [], length, drop, true, false, Bool, Result, IsSome, OnOk, IfOk, is_err};
 ghost use Rattle.ts_base.specs.Agreement.{Agrees, Counts, Uncounted, with_fault};
 ghost use Rattle.ts_outside.specs.States.{ReadsOn};
 ghost use Rattle.input_codings.specs.Lines.{Unread};
@@ -41,7 +41,7 @@ pub(crate) fn find<C: CodeTable>(present: &Present, codes: &C) -> Find
     requires { present.now.at ≤ length (line_in present.now.line) }
     ensures value { glance_of (line_in present.now.line) result
         ≡ what_is_in_line (C.codes codes.now) present.now.state (drop present.now.at (line_in present.now.line)) }
-    ensures places { IsInLine (length (line_in present.now.line)) result }
+    ensures places { IsInLine (present.now.at + 1) (length (line_in present.now.line)) result }
 {
     in_line(codes, present.state, characters(&present.line), present.at)
 }
@@ -63,11 +63,13 @@ fn name(names: &mut Names, active: bool, chars: &[Char]) -> Result<Seen, EyeFaul
 pub(crate) fn see(present: &mut Present, found: Find, names: &mut Names) -> Result<Seen, EyeFault>
     requires here { present.old.at ≤ length (line_in present.old.line) }
     requires something { found ≢ Find.Nothing }
-    requires places { IsInLine (length (line_in present.old.line)) found }
+    requires places { IsInLine (present.old.at + 1) (length (line_in present.old.line)) found }
     ensures exact { (lines : Unread) (ends : Bool) (behind : Result Look FaultAt)
         → Agrees (λ seen. record { seen = seen; names = names.new; sight = sight_in present.new.state present.new.at present.new.line lines ends }) look_cause
         (with_fault (at_line lines.line_no) result) (looked names.old lines ends (glance_of (line_in present.old.line) found) behind) }
     ensures within { present.new.at ≤ length (line_in present.new.line) }
+    ensures lowers { OnOk result
+        (length (drop present.new.at (line_in present.new.line)) < length (drop present.old.at (line_in present.old.line))) }
     ensures quiet { Uncounted eye_cause result }
     ensures names { SeesNames result names.old names.new }
 {
@@ -109,6 +111,8 @@ pub(crate) fn turn<F: Files>(
         → Turns result (sight_in present.old.state present.old.at present.old.line (unread lines.old ((F.state files.old).left lines.old.file)) ends)
         (sight_in present.new.state present.new.at present.new.line (unread lines.new ((F.state files.new).left lines.old.file)) ends) }
     ensures within { present.new.at ≤ length (line_in present.new.line) }
+    ensures short { length (line_in present.new.line) ≤ 65536 }
+    ensures ended { IfOk result (λ more. more ≡ false → line_in present.new.line ≡ []) }
     ensures file { lines.new.file ≡ lines.old.file }
     ensures counts { CountsTurn result lines.old.line_no lines.new.line_no }
     ensures failed { lines.new.failed ≡ is_err result }

@@ -1,7 +1,8 @@
-use Rattle.std.proofs.Common.{rules, ◌≡◌, refl, sym, ◌∙◌, drop}
+use Rattle.std.proofs.Common.{rules, ◌≡◌, refl, sym, ◌∙◌, drop, arith}
+use Rattle.std.proofs.lemmas.Grind.{common_steps}
 use Rattle.input_codings.specs.Reading.{unread}
 use Rattle.kcat_eyes.specs.Eyes.{next, in_line, Nothing, behind_line}
-use Rattle.kcat_eyes.specs.Sights.{line_in, sight_in}
+use Rattle.kcat_eyes.specs.Sights.{line_in, sight_in, ahead}
 use Rattle.kcat_eyes.proofs.Turns.{nothing_next, refusal}
 use Rattle.kcat_eyes.proofs.eyes.Eyes.next.Goals as goal
 
@@ -44,6 +45,7 @@ loop-found-preserved g c =
       found = search rules;
       places = search rules;
       within = search rules;
+      lowers = grind (arith, common_steps);
       same = search rules;
       unfailed = search rules;
       reads = search rules;
@@ -59,3 +61,11 @@ returns-clause-exact g c = λ told.
     let lines = unread c.loop-found.self-inside.lines ((g.F.Files.state c.loop-found.files).left c.args.self.now.lines.file) in
     let sight = sight_in present.state present.at present.line lines c.loop-found.self-inside.ends in
     rw (here.sight told) (rw here.found at (c.see.ensures.exact lines c.loop-found.self-inside.ends (behind_line codes c.args.names.now sight)))
+
+pub returns-then-not-branch-clause-lowers : goal.returns-then-not-branch-clause-lowers
+unfolding ahead
+returns-then-not-branch-clause-lowers g c =
+    let same = rw c.if-not-branch.true at c.in_ok-turn.ensures.counts in
+    let none = c.in_ok-turn.ensures.ended c.if-not-branch.true in
+    let lowers = c.loop-found.invariant.lowers in
+    rw none (grind (arith, common_steps))

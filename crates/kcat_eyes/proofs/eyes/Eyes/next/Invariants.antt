@@ -1,4 +1,4 @@
-use Rattle.std.proofs.Common.{◌≡◌, ◌≤◌, ◌-◌, true, false, length, drop, IsSome}
+use Rattle.std.proofs.Common.{◌≡◌, ◌≤◌, ◌-◌, ◌+◌, ◌*◌, true, false, length, drop, IsSome}
 use Rattle.ts_outside.specs.States.{ReadsOn}
 use Rattle.input_codings.specs.Reading.{unread}
 use Rattle.kcat_eyes.specs.Eyes.{next, in_line}
@@ -17,8 +17,10 @@ invariant-loop-found g l =
       names : l.names ≡ l.fn.names;
       rises : l.fn.self.lines.line_no ≤ l.self-inside.lines.line_no;
       found : glance_of (line_in present.line) l.found ≡ in_line codes present.state (drop present.at (line_in present.line));
-      places : IsInLine (length (line_in present.line)) l.found;
+      places : IsInLine (present.at + 1) (length (line_in present.line)) l.found;
       within : present.at ≤ length (line_in present.line);
+      lowers : (1000000 - l.self-inside.lines.line_no) * 65536 + length (drop present.at (line_in present.line))
+          ≤ (1000000 - l.fn.self.lines.line_no) * 65536 + length l.fn.self.rest;
       same : l.self-inside.lines.file ≡ file;
       unfailed : l.self-inside.lines.failed ≡ false;
       reads : ReadsOn file (g.F.Files.state l.fn.files) (g.F.Files.state l.files);
