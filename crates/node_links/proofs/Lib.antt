@@ -1,0 +1,4 @@
+pub mod Nodes
+pub mod Linking
+pub mod Valuing
+pub mod Taken
