@@ -1,0 +1,13 @@
+use Rattle.std.proofs.Common.{w64, ap, sym, ◌∙◌}
+use Rattle.std.specs.Option.{ok_or}
+use Rattle.std.proofs.lemmas.Int.{to_z-of_z}
+use Rattle.env_groups.specs.declared.fault.EnvFault.TheVariants.{CodeRange}
+use Rattle.env_groups.proofs.Rows.{cats, set_to}
+use Rattle.env_groups.proofs.env.Env.set_category.Goals as goal
+
+pub returns-clause-exact : goal.returns-clause-exact
+returns-clause-exact c =
+    let value = rw (to_z-of_z w64 c.args.value c.ranges.value) at c.new.ensures in
+    let stands = ap (λ o. ok_or o CodeRange) (sym value ∙ c.in_ok-category.ensures.ok_part) in
+    let is = c.in_ok-set.ensures.ok in
+    rw (← c.self.view_is) (set_to cats c.self.inside _ _ c.args.global _ _ stands is c.self.invariant.tall.cats)

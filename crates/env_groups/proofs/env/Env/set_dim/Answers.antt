@@ -1,0 +1,7 @@
+use Rattle.env_groups.proofs.Rows.{dims, set_by}
+use Rattle.env_groups.proofs.env.Env.set_dim.Goals as goal
+
+pub returns-clause-exact : goal.returns-clause-exact
+returns-clause-exact c =
+    let is = rw c.new.ensures at c.in_ok-set.ensures.ok in
+    rw (← c.self.view_is) (set_by dims c.self.inside _ c.args.value c.args.global _ _ c.in_ok-place.ensures is c.self.invariant.tall.dims)

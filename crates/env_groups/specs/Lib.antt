@@ -1,0 +1,15 @@
+pub mod Bounds
+pub mod Groups
+pub mod Fonts
+pub mod Parameters
+pub mod Places
+pub mod CharCodes
+pub mod StartMeanings
+pub mod PrimWords
+pub mod Macros
+pub mod Environments
+pub mod ModelCodes
+pub mod CodeBounds
+pub mod Stacks
+pub mod Inside
+pub mod Laws

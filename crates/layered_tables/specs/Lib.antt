@@ -1,0 +1,4 @@
+pub mod Environments
+pub mod Tables
+pub mod Undoing
+pub mod Values
