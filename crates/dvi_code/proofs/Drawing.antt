@@ -1,10 +1,10 @@
 -- How commands draw, one after the other.
 use Rattle.std.proofs.Common.{◌≡◌, ℕ, ◌+◌, List, [], ◌∷◌, ◌++◌, Ok, refl}
-use Rattle.dvi_code.specs.declared.font.FontDef.{FontDef}
-use Rattle.dvi_code.specs.Commands.{Command}
+use Rattle.dvi_commands.specs.declared.font.FontDef.{FontDef}
+use Rattle.dvi_commands.specs.Commands.{Command}
 use Rattle.dvi_code.specs.Pages.{Widths, Pen, all_drawn, drawn, counted}
 use Rattle.dvi_code.specs.Reading.{Draws}
-use Rattle.dvi_code.proofs.Stable.{bound}
+use Rattle.dvi_code.proofs.Steps.{bound}
 
 pub Draws-nil : (widths : Widths) (fonts : List FontDef) (p : Pen) → Draws widths fonts p [] p
 unfolding all_drawn

@@ -1,15 +1,15 @@
 -- Files that are right are read as their pages, and files that are wrong in one place give their fault.
 use Rattle.std.proofs.Common.{◌≡◌, ℕ, List, [], ◌∷◌, ◌++◌, length, map, refl, pos, negsuc, Some, None, Result, Ok, Err, replicate}
 use Rattle.ts_geometry.specs.declared.direction.Dir.TheVariants.{Yoko}
-use Rattle.dvi_code.specs.declared.fault.DviKind.TheVariants as kinds
-use Rattle.dvi_code.specs.declared.fault.DviBad.{DviBad}
-use Rattle.dvi_code.specs.declared.font.FontDef.{FontDef}
+use Rattle.dvi_commands.specs.declared.fault.DviKind.TheVariants as kinds
+use Rattle.dvi_commands.specs.declared.fault.DviBad.{DviBad}
+use Rattle.dvi_commands.specs.declared.font.FontDef.{FontDef}
 use Rattle.dvi_code.specs.declared.page.DviPage.{DviPage}
 use Rattle.ts_outside.specs.Endings.{with_ending, metric_ending}
-use Rattle.dvi_code.specs.Fields.{unsigned, signed, counts, font_number}
-use Rattle.dvi_code.specs.Commands.{mark_after, group_after, right_after, down_after, font_after, font_def_after, file_after, pre_after, post_after, command_after, command}
-use Rattle.dvi_code.specs.Places.{placed}
-use Rattle.dvi_code.specs.Structure.{is_sound_font, inside, at_start, at_gap, in_page, at_back, filled, walk, fault_at, whole_sheets}
+use Rattle.dvi_commands.specs.Fields.{unsigned, signed, counts, font_number}
+use Rattle.dvi_commands.specs.Commands.{mark_after, group_after, right_after, down_after, font_after, font_def_after, file_after, pre_after, post_after, command_after, command}
+use Rattle.dvi_structure.specs.Places.{placed}
+use Rattle.dvi_structure.specs.Structure.{is_sound_font, inside, at_start, at_gap, in_page, at_back, filled, walk, fault_at, whole_sheets}
 use Rattle.dvi_code.specs.Pages.{Widths, spot, glyph, drawn, all_drawn, pages_of, file_pages}
 
 -- ---- the pieces of a file
@@ -116,7 +116,7 @@ are_read : file_pages full (two_pages (234 ∷ movements ++ 129 ∷ 255 ∷ 254 
 unfolding unsigned signed counts font_def_after pre_after post_after mark_after group_after right_after down_after font_number font_after file_after command_after command placed is_sound_font inside at_start at_gap in_page at_back filled walk drawn all_drawn pages_of
 are_read = refl
 
--- whole pages: behind eop, before it, in the second page, in a whole file
+-- whole pages: after eop, before it, in the second page, in a whole file
 whole_pages : map (λ (bytes : List ℕ). length (whole_sheets bytes)) (with_end [] ∷ (preamble ++ page_begins ++ definition ++ body) ∷ (preamble ++ page_begins ++ 140 ∷ 139 ∷ []) ∷ two_pages (idle 16) ∷ []) ≡ 1 ∷ 0 ∷ 1 ∷ 2 ∷ []
 unfolding unsigned signed counts font_def_after pre_after post_after mark_after group_after right_after down_after font_number font_after file_after command_after command placed is_sound_font inside at_start at_gap in_page at_back filled walk
 whole_pages = refl

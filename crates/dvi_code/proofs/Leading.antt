@@ -1,13 +1,15 @@
 -- How bytes that say commands lead from one structure to another.
 use Rattle.std.proofs.Common.{◌≡◌, ℕ, suc, ◌-◌, ◌+◌, List, [], ◌∷◌, ◌++◌, length, Ok, refl, sym, ap, ◌∙◌, append_assoc, arith, ℤ, false, add-zero, length-append}
 use Rattle.std.proofs.lemmas.List.{append-nil}
-use Rattle.dvi_code.specs.declared.font.FontDef.{FontDef}
-use Rattle.dvi_code.specs.Commands as c
-use Rattle.dvi_code.specs.Commands.{Command, Definition, command}
-use Rattle.dvi_code.specs.Places.{Placed, said, fill, is_last, placed}
-use Rattle.dvi_code.specs.Structure.{Shape, walk, obeyed, Inside, inside, in_page}
-use Rattle.dvi_code.specs.Reading.{Spells, Leads, all_inside, paged}
-use Rattle.dvi_code.proofs.Stable.{Stable-command, bound}
+use Rattle.dvi_commands.specs.declared.font.FontDef.{FontDef}
+use Rattle.dvi_commands.specs.Commands as c
+use Rattle.dvi_commands.specs.Commands.{Command, Definition, command}
+use Rattle.dvi_structure.specs.Places.{Placed, said, fill, is_last, placed}
+use Rattle.dvi_structure.specs.Structure.{Shape, walk, obeyed, Inside, inside, in_page}
+use Rattle.dvi_commands.specs.Spelling.{Spells}
+use Rattle.dvi_code.specs.Reading.{Leads, all_inside, paged}
+use Rattle.dvi_commands.proofs.Writing.{commands_stay}
+use Rattle.dvi_code.proofs.Steps.{bound}
 
 -- ---- places
 
@@ -27,18 +29,18 @@ first_placed : (front : List ℕ) (cmd : Command) (at : ℕ) (y : List ℕ) → 
 unfolding placed
 first_placed [] cmd at y e last = absurd (not_nothing cmd e)
 first_placed (b ∷ bs) cmd at y e last =
-    let long : command (b ∷ (bs ++ y)) ≡ Ok (cmd, y) = Stable-command.again (b ∷ bs) y cmd [] e in
+    let long : command (b ∷ (bs ++ y)) ≡ Ok (cmd, y) = commands_stay (b ∷ bs) y [] cmd e in
     let n : length (bs ++ y) - length y ≡ length bs = omega (arith, length-append bs y) in
     let k : at + 1 + length bs ≡ at + suc (length bs) = omega arith in
     rw (long, last, n) (ap (λ (ps : List Placed). record { at = at; item = said cmd } ∷ ps) (skipped bs y (at + 1) ∙ ap (λ j. placed j 0 y) k))
 
--- post_post and the fill behind it
+-- post_post and the fill after it
 pub last_placed : (front : List ℕ) (p : ℤ) (id at : ℕ) (y : List ℕ) → command front ≡ Ok (c.post_post p id, [])
     → placed at 0 (front ++ y) ≡ record { at = at; item = said (c.post_post p id) } ∷ record { at = at + length front; item = fill y } ∷ []
 unfolding placed
 last_placed [] p id at y e = absurd (not_nothing (c.post_post p id) e)
 last_placed (b ∷ bs) p id at y e =
-    let long : command (b ∷ (bs ++ y)) ≡ Ok (c.post_post p id, y) = Stable-command.again (b ∷ bs) y (c.post_post p id) [] e in
+    let long : command (b ∷ (bs ++ y)) ≡ Ok (c.post_post p id, y) = commands_stay (b ∷ bs) y [] (c.post_post p id) e in
     let n : suc (length (bs ++ y)) - length y ≡ suc (length bs) = omega (arith, length-append bs y) in
     rw (long, n) refl
 
@@ -97,7 +99,3 @@ all_inside-append fonts [] ds i j k p q = let same : i ≡ j = cc in rw same q
 all_inside-append fonts (cmd ∷ cs) ds i j k p q =
     let m = bound (inside fonts i cmd) (λ x. all_inside fonts x cs) j p in
     rw m.1 (all_inside-append fonts cs ds m.0 j k m.2 q)
-
-pub Spells-append : (cs ds : List Command) (x y : List ℕ) → Spells x cs → Spells y ds → Spells (x ++ y) (cs ++ ds)
-Spells-append [] ds x y p q = rw p q
-Spells-append (cmd ∷ cs) ds x y p q = (p.0, p.1 ++ y, rw p.2 (append_assoc p.0 p.1 y), p.3, Spells-append cs ds p.1 y p.4 q)

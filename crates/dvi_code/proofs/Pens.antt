@@ -4,13 +4,13 @@ use Rattle.std.specs.Prelude.{◌&&◌}
 use Rattle.std.proofs.lemmas.List.{append-nil}
 use Rattle.ts_geometry.specs.declared.measure.Point.{Point}
 use Rattle.ts_geometry.specs.Directions.{sp, point}
-use Rattle.dvi_code.specs.declared.fault.DviKind.TheVariants as kinds
+use Rattle.dvi_commands.specs.declared.fault.DviKind.TheVariants as kinds
 use Rattle.dvi_code.specs.declared.mark.Mark.{Mark}
 use Rattle.dvi_code.specs.declared.pen.Spot as spots
 use Rattle.ts_base.specs.Agreement.{AgreesFault}
-use Rattle.dvi_code.specs.declared.refusal.Refusal.{Refusal}
-use Rattle.dvi_code.specs.declared.refusal.Refusal.TheVariants as refusals
-use Rattle.dvi_code.specs.Answers.{refused, refusal_cause}
+use Rattle.dvi_structure.specs.declared.refusal.Refusal.{Refusal}
+use Rattle.dvi_structure.specs.declared.refusal.Refusal.TheVariants as refusals
+use Rattle.dvi_structure.specs.Answers.{refused, refusal_cause}
 use Rattle.dvi_code.specs.Pages.{Spot, Pen, moved, is_in_range, back_to}
 use Rattle.dvi_code.specs.Straight.{spot_of, saved_of, near_point, coordinate, point_of}
 

@@ -4,9 +4,9 @@ use Rattle.std.specs.Prelude.{nat_le, nat_lt, ◌&&◌, if◌then◌else◌}
 use Rattle.std.specs.List.{list_all, list_any}
 use Rattle.std.proofs.lemmas.List.Folds.{list_all-append}
 use Rattle.ts_outside.specs.Names.{is_visible, is_file_name}
-use Rattle.dvi_code.specs.declared.font.FontDef.{FontDef}
+use Rattle.dvi_commands.specs.declared.font.FontDef.{FontDef}
 use Rattle.ts_outside.specs.Endings.{is_dot, last_part, metric_ending}
-use Rattle.dvi_code.specs.Structure.{is_sound_font}
+use Rattle.dvi_structure.specs.Structure.{is_sound_font}
 
 both_true : (a b : Bool) → (a && b) ≡ true → (a ≡ true) × (b ≡ true)
 both_true true true e = (refl, refl)

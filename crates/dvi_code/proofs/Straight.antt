@@ -4,20 +4,20 @@ use Rattle.std.specs.Prelude.{nat_le, nat_eq, ◌&&◌, ◌%◌}
 use Rattle.std.specs.Ordering.{int_eq}
 use Rattle.std.proofs.lemmas.List.{append-nil}
 use Rattle.ts_base.specs.Agreement.{◌>>=◌}
-use Rattle.dvi_code.specs.declared.fault.DviKind.{DviKind}
-use Rattle.dvi_code.specs.declared.fault.DviKind.TheVariants as kinds
-use Rattle.dvi_code.specs.declared.fault.DviBad.{DviBad}
-use Rattle.dvi_code.specs.declared.font.FontDef.{FontDef}
+use Rattle.dvi_commands.specs.declared.fault.DviKind.{DviKind}
+use Rattle.dvi_commands.specs.declared.fault.DviKind.TheVariants as kinds
+use Rattle.dvi_commands.specs.declared.fault.DviBad.{DviBad}
+use Rattle.dvi_commands.specs.declared.font.FontDef.{FontDef}
 use Rattle.dvi_code.specs.declared.page.DviPage.{DviPage}
-use Rattle.dvi_code.specs.Commands as c
-use Rattle.dvi_code.specs.Fields.{Field}
-use Rattle.dvi_code.specs.Commands.{Command, command, font_defined}
-use Rattle.dvi_code.specs.Places.{Item, Placed, said, bad, fill, is_last, placed, placed_first}
-use Rattle.dvi_code.specs.Structure as parts
-use Rattle.dvi_code.specs.Structure.{Inside, Shape, Sheet, Phase, font_of, inside, selected, closed, obeyed, at_start, at_gap, in_page, at_back, defined, defined_beside, placed_at, next_shape, walk, walked_on, walked, Walked, fault_at, answer, structure, start, file_fonts}
+use Rattle.dvi_commands.specs.Commands as c
+use Rattle.dvi_commands.specs.Fields.{Field}
+use Rattle.dvi_commands.specs.Commands.{Command, command, font_defined}
+use Rattle.dvi_structure.specs.Places.{Item, Placed, said, bad, fill, is_last, placed, placed_first}
+use Rattle.dvi_structure.specs.Structure as parts
+use Rattle.dvi_structure.specs.Structure.{Inside, Shape, Sheet, Phase, font_of, inside, selected, closed, obeyed, at_start, at_gap, in_page, at_back, defined, defined_beside, placed_at, next_shape, walk, walked_on, walked, Walked, fault_at, answer, structure, start, file_fonts}
 use Rattle.dvi_code.specs.Pages.{Widths, Pen, clean, drawn, counted, all_drawn, page_from, pages_of, file_pages}
 use Rattle.dvi_code.specs.Straight.{Reader, reader, start_reader, read_on, page_ended, ends_pages, pages_on}
-use Rattle.dvi_code.proofs.Stable.{bound}
+use Rattle.dvi_code.proofs.Steps.{bound}
 
 -- ---- definitions that are there stay
 

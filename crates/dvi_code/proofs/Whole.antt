@@ -3,16 +3,17 @@ use Rattle.std.proofs.Common.{◌≡◌, ℕ, zero, suc, ◌-◌, ◌+◌, List,
 use Rattle.std.specs.Prelude.{IfOk}
 use Rattle.std.proofs.lemmas.List.{append-nil}
 use Rattle.ts_base.specs.Agreement.{◌>>=◌}
-use Rattle.dvi_code.specs.declared.fault.DviKind.{DviKind}
-use Rattle.dvi_code.specs.declared.fault.DviBad.{DviBad}
+use Rattle.dvi_commands.specs.declared.fault.DviKind.{DviKind}
+use Rattle.dvi_commands.specs.declared.fault.DviBad.{DviBad}
 use Rattle.dvi_code.specs.declared.page.DviPage.{DviPage}
-use Rattle.dvi_code.specs.Fields.{Field}
-use Rattle.dvi_code.specs.Commands as c
-use Rattle.dvi_code.specs.Commands.{Command, command}
-use Rattle.dvi_code.specs.Places.{Item, Placed, said, bad, fill, is_last, placed_first, placed}
-use Rattle.dvi_code.specs.Structure.{Shape, Sheet, Phase, ahead, between, within, behind, ended, Inside, start, at_start, at_gap, in_page, at_back, obeyed, closed, placed_at, filled, next_shape, walk, walked_on, walked, Walked, answer, structure, whole_sheets}
+use Rattle.dvi_commands.specs.Fields.{Field}
+use Rattle.dvi_commands.specs.Commands as c
+use Rattle.dvi_commands.specs.Commands.{Command, command}
+use Rattle.dvi_structure.specs.Places.{Item, Placed, said, bad, fill, is_last, placed_first, placed}
+use Rattle.dvi_structure.specs.Structure.{Shape, Sheet, Phase, ahead, between, within, behind, ended, Inside, start, at_start, at_gap, in_page, at_back, obeyed, closed, placed_at, filled, next_shape, walk, walked_on, walked, Walked, answer, structure, whole_sheets}
 use Rattle.dvi_code.specs.Pages.{Widths, page_of, pages_of, file_pages, whole_pages}
-use Rattle.dvi_code.proofs.Stable.{Stable-command, bound}
+use Rattle.dvi_commands.proofs.Writing.{commands_stay}
+use Rattle.dvi_code.proofs.Steps.{bound}
 use Rattle.dvi_code.proofs.Straight.{filled_same}
 
 pub record Grows (xs ys : List Sheet) : Type 0 where
@@ -118,14 +119,14 @@ unfolding walk
 tails true s a b f g ps qs h = rw (fill_keeps s (filled s a 0 f) (λ t e. filled_same s t a 0 f e), fill_keeps s (filled s b 0 g) (λ t e. filled_same s t b 0 g e)) (same s.sheets)
 tails false s a b f g ps qs h = h
 
--- the command at the front, read alone and with more behind it
+-- the command at the front, read alone and with more after it
 at_command : (b : ℕ) (bs y : List ℕ) (at : ℕ) (s : Shape) → ((j k : ℕ) (t : Shape) → Grows (walk t (placed j k bs)).shape.sheets (walk t (placed j k (bs ++ y))).shape.sheets)
     → (r : Field Command) → command (b ∷ bs) ≡ r
     → Grows (walk s (placed_first at (length bs) (λ skip. placed (at + 1) skip bs) r)).shape.sheets (walk s (placed at zero (b ∷ (bs ++ y)))).shape.sheets
 unfolding placed walk
 at_command b bs y at s goes_on (Err e) is = walk_grows (placed at zero (b ∷ (bs ++ y))) s
 at_command b bs y at s goes_on (Ok x) is =
-    let long : command (b ∷ (bs ++ y)) ≡ Ok (x.0, x.1 ++ y) = Stable-command.again (b ∷ bs) y x.0 x.1 is in
+    let long : command (b ∷ (bs ++ y)) ≡ Ok (x.0, x.1 ++ y) = commands_stay (b ∷ bs) y x.1 x.0 is in
     let n : length (bs ++ y) - length (x.1 ++ y) ≡ length bs - length x.1 = omega (arith, length-append bs y, length-append x.1 y) in
     rw (long, n) (both_on s _ _ (next_shape s at (said x.0)) (λ t. tails (is_last x.0) t _ _ x.1 (x.1 ++ y) _ _ (goes_on (at + 1) (length bs - length x.1) t)))
 

@@ -1,12 +1,4 @@
-pub mod Fields
-pub mod Commands
-pub mod Next
-pub mod Places
-pub mod Structure
 pub mod Pages
 pub mod Reading
-pub mod Answers
-pub mod Outline
-pub mod FontPlaces
 pub mod Straight
 pub mod Laws

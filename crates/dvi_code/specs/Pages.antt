@@ -1,5 +1,5 @@
--- The pages of marks that a DVI file means (TeX: The Program, sections 585 to 586): a second pass over the commands of each
--- page, with the widths of characters and the positions.
+-- The pages of marks that a DVI file means (TeX: The Program, sections 585 to 586): a second pass
+-- over the commands of each page, with the widths of characters and the positions.
 use Rattle.std.specs.Prelude.{ℕ, ◌+◌, List, [], ◌∷◌, ◌++◌, Result, Ok, Err, Option, Some, None, ℤ, pos, neg_ℤ, int_le, int_lt, Bool, ◌&&◌, if◌then◌else◌, get_or}
 use Rattle.ts_geometry.specs.declared.measure.Sp.{Sp}
 use Rattle.ts_geometry.specs.declared.measure.Point.{Point}
@@ -7,22 +7,23 @@ use Rattle.ts_geometry.specs.declared.direction.Dir.{Dir}
 use Rattle.ts_geometry.specs.declared.direction.Dir.TheVariants.{Yoko}
 use Rattle.ts_geometry.specs.Directions.{sp, point, step}
 use Rattle.ts_base.specs.Agreement.{◌>>=◌}
-use Rattle.dvi_code.specs.declared.fault.DviKind.{DviKind}
-use Rattle.dvi_code.specs.declared.fault.DviKind.TheVariants as kinds
-use Rattle.dvi_code.specs.declared.fault.DviBad.{DviBad}
-use Rattle.dvi_code.specs.declared.font.FontDef.{FontDef}
+use Rattle.dvi_commands.specs.declared.fault.DviKind.{DviKind}
+use Rattle.dvi_commands.specs.declared.fault.DviKind.TheVariants as kinds
+use Rattle.dvi_commands.specs.declared.fault.DviBad.{DviBad}
+use Rattle.dvi_commands.specs.declared.font.FontDef.{FontDef}
 use Rattle.dvi_code.specs.declared.mark.What.TheVariants.{Glyph, Rule}
 use Rattle.dvi_code.specs.declared.mark.Mark.{Mark}
 use Rattle.dvi_code.specs.declared.page.DviPage.{DviPage}
-use Rattle.dvi_code.specs.Commands as c
-use Rattle.dvi_code.specs.Commands.{Command, dir_of}
-use Rattle.dvi_code.specs.Structure.{font_of, Sheet, structure, whole_sheets, fault_at}
+use Rattle.dvi_commands.specs.Commands as c
+use Rattle.dvi_commands.specs.Commands.{Command, dir_of}
+use Rattle.dvi_structure.specs.Structure.{font_of, Sheet, structure, whole_sheets, fault_at}
 
 -- the width of a character of a font at its size, if the font has it
 abbrev pub Widths : Type 0
 Widths = FontDef → ℕ → Option Sp
 
--- what push saves: the point, the direction, and the last measures of movements, w and x along and y and z across
+-- what push saves: the point, the direction, and the last measures of movements, w and x along and
+-- y and z across
 pub record Spot : Type 0 where
   pub at : Point
   pub dir : Dir
@@ -31,7 +32,8 @@ pub record Spot : Type 0 where
   pub y : ℤ
   pub z : ℤ
 
--- where the next mark is set, what was pushed, the last first, the chosen font, and the marks so far
+-- where the next mark is set, what was pushed, the last first, the chosen font, and the marks so
+-- far
 pub record Pen : Type 0 where
   pub spot : Spot
   pub saved : List Spot
@@ -56,7 +58,8 @@ is_in_range z = int_le (neg_ℤ (pos 2147483647)) z && int_le z (pos 2147483647)
 -- the pen with marks more and then at a new spot
 abbrev pub moved : Pen → Spot → List Mark → Result Pen DviKind
 moved p s more =
-    if is_in_range s.at.x.0 && is_in_range s.at.y.0 then Ok (record { spot = s; saved = p.saved; chosen = p.chosen; marks = p.marks ++ more })
+    if is_in_range s.at.x.0 && is_in_range s.at.y.0
+    then Ok (record { spot = s; saved = p.saved; chosen = p.chosen; marks = p.marks ++ more })
     else Err kinds.Range
 
 abbrev pub glyph : FontDef → ℕ → Spot → Mark
@@ -65,7 +68,8 @@ glyph f code s = record { what = Glyph f.name f.size code; at = s.at; dir = s.di
 -- a glyph of a width, which is stepped along
 abbrev pub glyph_set : Pen → FontDef → ℕ → Option Sp → Result Pen DviKind
 glyph_set p f code None = Err kinds.Width
-glyph_set p f code (Some width) = moved p (stepped p.spot width.0 (pos 0)) (glyph f code p.spot ∷ [])
+glyph_set p f code (Some width) =
+    moved p (stepped p.spot width.0 (pos 0)) (glyph f code p.spot ∷ [])
 
 abbrev pub set_by : Widths → Pen → ℕ → Option FontDef → Result Pen DviKind
 set_by widths p code None = Err kinds.FontUndefined
@@ -83,7 +87,8 @@ put_by widths p code (Some f) = glyph_put p f code (widths f code)
 -- a rule is a mark where its height and its width are above 0
 abbrev pub rule : ℤ → ℤ → Spot → List Mark
 rule height width s =
-    if int_lt (pos 0) height && int_lt (pos 0) width then record { what = Rule (sp height) (sp width); at = s.at; dir = s.dir } ∷ []
+    if int_lt (pos 0) height && int_lt (pos 0) width
+    then record { what = Rule (sp height) (sp width); at = s.at; dir = s.dir } ∷ []
     else []
 
 abbrev pub along : Pen → Spot → ℤ → Result Pen DviKind
@@ -104,10 +109,12 @@ back_to p (s ∷ ss) = Ok (record { spot = s; saved = ss; chosen = p.chosen; mar
 unfoldable pub drawn : Widths → List FontDef → Pen → Command → Result Pen DviKind
 drawn widths fonts p (c.set code) = set_by widths p code p.chosen
 drawn widths fonts p (c.put code) = put_by widths p code p.chosen
-drawn widths fonts p (c.set_rule height width) = moved p (stepped p.spot width (pos 0)) (rule height width p.spot)
+drawn widths fonts p (c.set_rule height width) =
+    moved p (stepped p.spot width (pos 0)) (rule height width p.spot)
 drawn widths fonts p (c.put_rule height width) = moved p p.spot (rule height width p.spot)
 drawn widths fonts p c.nop = Ok p
-drawn widths fonts p c.push = Ok (record { spot = p.spot; saved = p.spot ∷ p.saved; chosen = p.chosen; marks = p.marks })
+drawn widths fonts p c.push =
+    Ok (record { spot = p.spot; saved = p.spot ∷ p.saved; chosen = p.chosen; marks = p.marks })
 drawn widths fonts p c.pop = back_to p p.saved
 drawn widths fonts p (c.right n) = along p p.spot n
 drawn widths fonts p c.w0 = along p p.spot p.spot.w
@@ -119,7 +126,8 @@ drawn widths fonts p c.y0 = across p p.spot p.spot.y
 drawn widths fonts p (c.y n) = across p (record p.spot { y = n }) n
 drawn widths fonts p c.z0 = across p p.spot p.spot.z
 drawn widths fonts p (c.z n) = across p (record p.spot { z = n }) n
-drawn widths fonts p (c.font n) = Ok (record { spot = p.spot; saved = p.saved; chosen = font_of fonts n; marks = p.marks })
+drawn widths fonts p (c.font n) =
+    Ok (record { spot = p.spot; saved = p.saved; chosen = font_of fonts n; marks = p.marks })
 drawn widths fonts p (c.xxx text) = Ok p
 drawn widths fonts p (c.direction d) = turned_to p (dir_of d)
 drawn widths fonts p _ = Err kinds.Misplaced
@@ -129,10 +137,11 @@ abbrev pub counted : ℕ → Result Pen DviKind → Result Pen (ℕ × DviKind)
 counted before (Ok p) = Ok p
 counted before (Err kind) = Err (before, kind)
 
--- commands one after the other, behind so many
+-- commands one after the other, after so many
 unfoldable pub all_drawn : Widths → List FontDef → ℕ → Pen → List Command → Result Pen (ℕ × DviKind)
 all_drawn widths fonts before p [] = Ok p
-all_drawn widths fonts before p (cmd ∷ cmds) = counted before (drawn widths fonts p cmd) >>= λ q. all_drawn widths fonts (before + 1) q cmds
+all_drawn widths fonts before p (cmd ∷ cmds) =
+    counted before (drawn widths fonts p cmd) >>= λ q. all_drawn widths fonts (before + 1) q cmds
 
 abbrev pub page_from : Sheet → Result Pen (ℕ × DviKind) → Result DviPage DviBad
 page_from s (Ok p) = Ok (record { counts = s.counts; marks = p.marks })

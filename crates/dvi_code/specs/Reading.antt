@@ -1,22 +1,17 @@
--- Bytes that say commands, and where reading stands behind them, whatever follows. So a file can be read piece by piece.
+-- Where reading stands after bytes, whatever follows them. So a file can be read piece by piece.
 use Rattle.std.specs.Prelude.{◌≡◌, ℕ, ◌+◌, List, [], ◌∷◌, ◌++◌, length, Result, Ok, ℤ}
-use Rattle.std.specs.Int.{w32, bytes_high_first, cast_unsigned}
 use Rattle.ts_base.specs.Agreement.{◌>>=◌}
-use Rattle.dvi_code.specs.declared.fault.DviKind.{DviKind}
-use Rattle.dvi_code.specs.declared.font.FontDef.{FontDef}
-use Rattle.dvi_code.specs.Commands.{Command, Definition, command}
-use Rattle.dvi_code.specs.Places.{placed}
-use Rattle.dvi_code.specs.Structure.{Shape, walk, Inside, inside, within}
+use Rattle.dvi_commands.specs.declared.fault.DviKind.{DviKind}
+use Rattle.dvi_commands.specs.declared.font.FontDef.{FontDef}
+use Rattle.dvi_commands.specs.Commands.{Command}
+use Rattle.dvi_structure.specs.Places.{placed}
+use Rattle.dvi_structure.specs.Structure.{Shape, walk, Inside, inside, within}
 use Rattle.dvi_code.specs.Pages.{Widths, Pen, all_drawn}
-
--- The bytes say these commands and no more.
-abbrev pub Spells : List ℕ → List Command → Type 0
-Spells bytes [] = bytes ≡ []
-Spells bytes (c ∷ cs) = (front : List ℕ) × (rest : List ℕ) × (bytes ≡ front ++ rest) × (command front ≡ Ok (c, [])) × Spells rest cs
 
 -- From the structure s at a place the bytes lead to t, whatever follows them.
 pub record Leads (at : ℕ) (s : Shape) (bytes : List ℕ) (t : Shape) : Type 0 where
-  pub on : (more : List ℕ) → walk s (placed at 0 (bytes ++ more)) ≡ walk t (placed (at + length bytes) 0 more)
+  pub on : (more : List ℕ) → walk s (placed at 0 (bytes ++ more))
+      ≡ walk t (placed (at + length bytes) 0 more)
 
 -- the commands of a page one after the other, wherever the page stands
 abbrev pub all_inside : List FontDef → Inside → List Command → Result Inside DviKind
@@ -24,17 +19,15 @@ all_inside fonts i [] = Ok i
 all_inside fonts i (c ∷ cs) = inside fonts i c >>= λ j. all_inside fonts j cs
 
 -- The commands take the pen from p to q.
-pub record Draws (widths : Widths) (fonts : List FontDef) (p : Pen) (cs : List Command) (q : Pen) : Type 0 where
+pub record Draws (widths : Widths) (fonts : List FontDef) (p : Pen) (cs : List Command)
+    (q : Pen) : Type 0 where
   pub on : (before : ℕ) → all_drawn widths fonts before p cs ≡ Ok q
 
 -- a structure within a page
 abbrev pub paged : Shape → List ℤ → List Command → List ℕ → Inside → Shape
-paged s counts body places i = record { last = s.last; fonts = s.fonts; sheets = s.sheets; phase = within counts body places i }
-
--- a signed number of four bytes
-abbrev pub four : ℤ → List ℕ
-four z = bytes_high_first 4 (cast_unsigned w32 z)
-
--- a definition whose area is empty
-abbrev pub plain_definition : FontDef → Definition
-plain_definition f = record { number = f.number; check_sum = f.check_sum; size = f.size; design = f.design; area = []; name = f.name }
+paged s counts body places i = record {
+  last = s.last;
+  fonts = s.fonts;
+  sheets = s.sheets;
+  phase = within counts body places i;
+}

@@ -1,25 +1,26 @@
--- The pages of a file whose structure is right, read straight on with the definitions of the whole file: what a second pass does.
+-- The pages of a file whose structure is right, read straight on with the definitions of the whole
+-- file: what a second pass does.
 use Rattle.std.specs.Prelude.{ℕ, List, [], ◌∷◌, ◌++◌, Result, Ok, Err, Option, Some, None, ℤ, pos, Bool, true, false, if◌then◌else◌, ◌&&◌, replicate}
 use Rattle.ts_base.specs.Agreement.{◌>>=◌}
-use Rattle.dvi_code.specs.declared.fault.DviKind.{DviKind}
-use Rattle.dvi_code.specs.declared.fault.DviKind.TheVariants as kinds
-use Rattle.dvi_code.specs.declared.fault.DviBad.{DviBad}
+use Rattle.dvi_commands.specs.declared.fault.DviKind.{DviKind}
+use Rattle.dvi_commands.specs.declared.fault.DviKind.TheVariants as kinds
+use Rattle.dvi_commands.specs.declared.fault.DviBad.{DviBad}
 use Rattle.ts_geometry.specs.declared.measure.Point.{Point}
 use Rattle.ts_geometry.specs.declared.measure.Sp.{Sp}
 use Rattle.ts_geometry.specs.Directions.{sp}
-use Rattle.dvi_code.specs.declared.font.FontDef.{FontDef}
+use Rattle.dvi_commands.specs.declared.font.FontDef.{FontDef}
 use Rattle.dvi_code.specs.declared.mark.Mark.{Mark}
 use Rattle.dvi_code.specs.declared.page.DviPage.{DviPage}
 use Rattle.dvi_code.specs.declared.pen.Spot as spots
 use Rattle.dvi_code.specs.declared.pen.Pen as pens
 use Rattle.dvi_code.specs.declared.pages.Reader as readers
-use Rattle.dvi_code.specs.declared.command.Command as code
-use Rattle.dvi_code.specs.declared.command.Command.TheVariants as read
-use Rattle.dvi_code.specs.Commands as c
-use Rattle.dvi_code.specs.Commands.{Command}
-use Rattle.dvi_code.specs.Places.{Item, Placed, said, bad, fill}
-use Rattle.dvi_code.specs.Structure.{placed_at, fault_at}
-use Rattle.dvi_code.specs.FontPlaces.{at_place}
+use Rattle.dvi_commands.specs.declared.command.Command as code
+use Rattle.dvi_commands.specs.declared.command.Command.TheVariants as read
+use Rattle.dvi_commands.specs.Commands as c
+use Rattle.dvi_commands.specs.Commands.{Command}
+use Rattle.dvi_structure.specs.Places.{Item, Placed, said, bad, fill}
+use Rattle.dvi_structure.specs.Structure.{placed_at, fault_at}
+use Rattle.dvi_structure.specs.FontPlaces.{at_place}
 use Rattle.dvi_code.specs.Pages.{Widths, Spot, Pen, clean, drawn, is_in_range}
 
 -- the counts of the page that was begun last, and its pen
@@ -51,16 +52,20 @@ ends_pages (c.post p) = true
 ends_pages (c.post_post at id) = true
 ends_pages _ = false
 
-abbrev pub after_item : Widths → List FontDef → Reader → (Reader → Result (List DviPage) DviBad) → ℕ → Item → Result (List DviPage) DviBad
+abbrev pub after_item : Widths → List FontDef → Reader → (Reader → Result (List DviPage) DviBad) → ℕ
+    → Item → Result (List DviPage) DviBad
 after_item widths fonts r others at (said cmd) =
     if ends_pages cmd then Ok []
-    else (placed_at at (read_on widths fonts r cmd) >>= λ q. others q >>= λ pages. Ok (page_ended r cmd ++ pages))
+    else (placed_at at (read_on widths fonts r cmd) >>= λ q. others q
+    >>= λ pages. Ok (page_ended r cmd ++ pages))
 after_item widths fonts r others at (bad kind) = Err (fault_at at kind)
 after_item widths fonts r others at (fill bytes) = others r
 
-unfoldable pub pages_on : Widths → List FontDef → Reader → List Placed → Result (List DviPage) DviBad
+unfoldable pub pages_on : Widths → List FontDef → Reader → List Placed
+    → Result (List DviPage) DviBad
 pages_on widths fonts r [] = Ok []
-pages_on widths fonts r (p ∷ ps) = after_item widths fonts r (λ q. pages_on widths fonts q ps) p.at p.item
+pages_on widths fonts r (p ∷ ps) =
+    after_item widths fonts r (λ q. pages_on widths fonts q ps) p.at p.item
 
 -- ---- what the reader keeps
 
@@ -73,7 +78,12 @@ saved_of [] = []
 saved_of (s ∷ ss) = saved_of ss ++ spot_of s ∷ []
 
 abbrev pub pen_of : List FontDef → pens.Pen → Pen
-pen_of fonts p = record { spot = spot_of p.spot; saved = saved_of p.saved.items; chosen = at_place fonts p.chosen; marks = p.marks }
+pen_of fonts p = record {
+  spot = spot_of p.spot;
+  saved = saved_of p.saved.items;
+  chosen = at_place fonts p.chosen;
+  marks = p.marks;
+}
 
 -- the point, unless a coordinate is out of range
 abbrev pub near_point : Point → Result Point DviKind
@@ -92,7 +102,8 @@ marks_of None = []
 marks_of (Some mark) = mark ∷ []
 
 abbrev pub pushed : Pen → Result Pen DviKind
-pushed p = Ok (record { spot = p.spot; saved = p.spot ∷ p.saved; chosen = p.chosen; marks = p.marks })
+pushed p =
+    Ok (record { spot = p.spot; saved = p.spot ∷ p.saved; chosen = p.chosen; marks = p.marks })
 
 abbrev pub moves_right : code.Command → Bool
 moves_right (read.Right n) = true
@@ -112,7 +123,3 @@ moves_down _ = false
 
 abbrev pub reader_of : List FontDef → readers.Reader → Reader
 reader_of fonts r = reader r.counts (pen_of fonts r.pen)
-
-abbrev pub list_of : Option DviPage → List DviPage
-list_of None = []
-list_of (Some page) = page ∷ []

@@ -1,24 +1,12 @@
 //! Laws of what DVI files mean, for those who write them. The lemmas that proofs cite for them
 //! stand in `proofs/Writing.antt`.
 
-ghost use Rattle.dvi_code.specs.Laws.{WholePagesAreFirst, CommandsStay, SpellingsJoin, CommandsLead, BytesLeadOn, CommandsDrawOn, DefinitionsStay, BodiesJoin, BodiesLead, LastPlaced, SaysPush, SaysPop, SaysEop, SaysRight, SaysDown, SaysSet, SaysFontDef, SaysPost, SaysPostPost, NothingDrawn, OneDrawn, ShortNamesSound};
+ghost use Rattle.dvi_code.specs.Laws.{WholePagesAreFirst, CommandsLead, BytesLeadOn, CommandsDrawOn, DefinitionsStay, BodiesJoin, BodiesLead, LastPlaced, NothingDrawn, OneDrawn, ShortNamesSound};
 
 /// The whole pages of a prefix of a file, those whose eop is in it, are the first of its pages.
 #[tactic(auto, using(crate::proofs::Writing::whole_pages_are_first, std::proofs::lemmas::Grind::common_steps))]
 pub fn whole_pages_are_the_first()
     ensures { WholePagesAreFirst }
-{}
-
-/// A command that is read is read again whatever follows its bytes.
-#[tactic(auto, using(crate::proofs::Writing::commands_stay, std::proofs::lemmas::Grind::common_steps))]
-pub fn commands_stay()
-    ensures { CommandsStay }
-{}
-
-/// Bytes that say commands say both where they are joined.
-#[tactic(auto, using(crate::proofs::Writing::spellings_join, std::proofs::lemmas::Grind::common_steps))]
-pub fn spellings_join()
-    ensures { SpellingsJoin }
 {}
 
 /// A command of a file leads from one structure to the next.
@@ -56,20 +44,6 @@ pub fn bodies_lead_on()
 #[tactic(auto, using(crate::proofs::Writing::last_placed, std::proofs::lemmas::Grind::common_steps))]
 pub fn the_last_is_placed()
     ensures { LastPlaced }
-{}
-
-/// What the bytes of each command say that a writer needs.
-#[tactic(auto, using(crate::proofs::Writing::says_push, crate::proofs::Writing::says_pop, crate::proofs::Writing::says_eop, crate::proofs::Writing::says_right, crate::proofs::Writing::says_down, crate::proofs::Writing::says_set, crate::proofs::Writing::says_font_def, crate::proofs::Writing::says_post, crate::proofs::Writing::says_post_post, std::proofs::lemmas::Grind::common_steps))]
-pub fn bytes_say_commands()
-    ensures push { SaysPush }
-    ensures pop { SaysPop }
-    ensures eop { SaysEop }
-    ensures right { SaysRight }
-    ensures down { SaysDown }
-    ensures set { SaysSet }
-    ensures font_def { SaysFontDef }
-    ensures post { SaysPost }
-    ensures post_post { SaysPostPost }
 {}
 
 /// No command leaves the pen as it is, and one before others draws before them.

@@ -4,20 +4,18 @@ ghost use Rattle.std.specs.Prelude.{◌≡◌, ◌++◌, ◌+ℤ◌, ◌-ℤ◌,
 ghost use Rattle.ts_geometry.specs.declared.measure.Sp.{Sp};
 ghost use Rattle.ts_geometry.specs.Directions.{sp, point, step};
 ghost use Rattle.ts_base.specs.Agreement.{Agrees};
-ghost use Rattle.dvi_code.specs.declared.font.FontDef.{FontDef};
-ghost use Rattle.dvi_code.specs.Answers.{refused, refusal_cause};
-ghost use Rattle.dvi_code.specs.Commands.{meant, dir_of};
-ghost use Rattle.dvi_code.specs.Structure.{font_of};
-ghost use Rattle.dvi_code.specs.FontPlaces.{at_place};
-ghost use Rattle.dvi_code.specs.Pages.{clean, is_in_range, stepped, moved, along, across, set_by, put_by, rule, back_to, turned_to, glyph, drawn};
+ghost use Rattle.dvi_commands.specs.declared.font.FontDef.{FontDef};
+ghost use Rattle.dvi_structure.specs.Answers.{refused, refusal_cause};
+ghost use Rattle.dvi_commands.specs.Commands.{meant, dir_of};
+ghost use Rattle.dvi_structure.specs.Structure.{font_of};
+ghost use Rattle.dvi_structure.specs.FontPlaces.{at_place};
+ghost use Rattle.dvi_code.specs.Pages.{clean, is_in_range, stepped, moved, along, across, set_by, put_by, rule, back_to, turned_to, glyph, glyph_set, drawn};
 ghost use Rattle.dvi_code.specs.Straight.{spot_of, saved_of, pen_of, near_point, coordinate, point_of, marks_of, pushed, moves_right, moves_down};
 
-use crate::command::Command;
-use crate::definitions::Fonts;
-use crate::fault::DviKind;
-use crate::font::{FontDef, Widths};
+use crate::font::Widths;
 use crate::mark::{Mark, Marks, What};
-use crate::refusal::Refusal;
+use dvi_commands::{Command, DviKind, FontDef};
+use dvi_structure::{Fonts, Refusal};
 use std::alloc::Global;
 use ts_geometry::{Dir, Point, Sp};
 use ts_outside::FileName;
@@ -46,22 +44,22 @@ pub(crate) struct Pen {
 fn plus(from: Sp, by: Sp) -> Option<Sp>
     ensures { result ≡ coordinate (from.0 +ℤ by.0) }
 {
-    let to = from.0 as i128 + by.0 as i128;
+    let to = from.0.checked_add(by.0)?;
     if to < -2_147_483_647 || 2_147_483_647 < to {
         return None;
     }
-    Some(Sp(to as i64))
+    Some(Sp(to))
 }
 
 // A coordinate without so much, unless that passes 2^31 - 1.
 fn minus(from: Sp, by: Sp) -> Option<Sp>
     ensures { result ≡ coordinate (from.0 -ℤ by.0) }
 {
-    let to = from.0 as i128 - by.0 as i128;
+    let to = from.0.checked_sub(by.0)?;
     if to < -2_147_483_647 || 2_147_483_647 < to {
         return None;
     }
-    Some(Sp(to as i64))
+    Some(Sp(to))
 }
 
 fn point_of(x: Option<Sp>, y: Option<Sp>) -> Result<Point, Refusal>
@@ -136,8 +134,27 @@ impl Pen {
         }
     }
 
+    // With a mark more, and then at a point.
+    fn keep(&mut self, mark: Mark, at: Point) -> Result<(), Refusal>
+        ensures ok { OnOk result ((fonts : List FontDef) → pen_of fonts self.new ≡ record (pen_of
+            fonts self.old) {
+              spot = record (spot_of self.old.spot) { at = at };
+              marks =
+                  self.old.marks ++ mark ∷ [];
+            }) }
+        ensures err { IfErr result (λ e. e ≡ Refusal.NoMemory) }
+    {
+        match self.marks.push(mark) {
+            Ok(()) => {
+                self.spot.at = at;
+                Ok(())
+            }
+            Err(_) => Err(Refusal::NoMemory),
+        }
+    }
+
     // With a mark more, if there is one, and then at a point.
-    fn keep(&mut self, mark: Option<Mark>, at: Point) -> Result<(), Refusal>
+    fn keep_any(&mut self, mark: Option<Mark>, at: Point) -> Result<(), Refusal>
         ensures ok { OnOk result ((fonts : List FontDef) → pen_of fonts self.new ≡ record (pen_of
             fonts self.old) {
               spot = record (spot_of self.old.spot) { at = at };
@@ -146,13 +163,13 @@ impl Pen {
             }) }
         ensures err { IfErr result (λ e. e ≡ Refusal.NoMemory) }
     {
-        if let Some(mark) = mark {
-            if self.marks.push(mark).is_err() {
-                return Err(Refusal::NoMemory);
+        match mark {
+            Some(mark) => self.keep(mark, at),
+            None => {
+                self.spot.at = at;
+                Ok(())
             }
         }
-        self.spot.at = at;
-        Ok(())
     }
 
     // With a mark more, if there is one, and then so far along.
@@ -162,7 +179,7 @@ impl Pen {
             along.0 (pos 0)) (marks_of mark))) }
     {
         match reached(self.spot.at, self.spot.dir, along, Sp(0)) {
-            Ok(at) => self.keep(mark, at),
+            Ok(at) => self.keep_any(mark, at),
             Err(refusal) => Err(refusal),
         }
     }
@@ -174,7 +191,22 @@ impl Pen {
             mark))) }
     {
         match near(self.spot.at) {
-            Ok(at) => self.keep(mark, at),
+            Ok(at) => self.keep_any(mark, at),
+            Err(refusal) => Err(refusal),
+        }
+    }
+
+    // With a character of a font more, and then so far along.
+    #[inline(always)]
+    fn set_glyph(&mut self, font: &FontDef, code: u32, width: Sp) -> Result<(), Refusal>
+        ensures { (fonts : List FontDef) → Agrees (λ u. pen_of fonts self.new) refusal_cause
+            result (refused (glyph_set (pen_of fonts self.old) font.now code (Some width))) }
+    {
+        match reached(self.spot.at, self.spot.dir, width, Sp(0)) {
+            Ok(at) => {
+                let mark = self.glyph(font, code);
+                self.keep(mark, at)
+            }
             Err(refusal) => Err(refusal),
         }
     }
@@ -236,7 +268,14 @@ impl Pen {
         }
     }
 
-    fn set<W: Widths>(&mut self, fonts: &Fonts, widths: &W, code: u32) -> Result<(), Refusal>
+    /// Sets a character of the chosen font.
+    #[inline(always)]
+    pub(crate) fn set<W: Widths>(
+        &mut self,
+        fonts: &Fonts,
+        widths: &W,
+        code: u32,
+    ) -> Result<(), Refusal>
         ensures { Agrees (λ u. pen_of fonts.now self.new) refusal_cause result (refused (set_by
             (W.width_of widths.now) (pen_of fonts.now self.old) code (at_place fonts.now
             self.old.chosen))) }
@@ -247,8 +286,7 @@ impl Pen {
         let Some(width) = widths.width(font, code) else {
             return Err(Refusal::Kind(DviKind::Width));
         };
-        let mark = self.glyph(font, code);
-        self.mark(Some(mark), width)
+        self.set_glyph(font, code, width)
     }
 
     fn put<W: Widths>(&mut self, fonts: &Fonts, widths: &W, code: u32) -> Result<(), Refusal>

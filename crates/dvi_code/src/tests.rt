@@ -3,31 +3,12 @@
 ghost use Rattle.std.specs.Prelude.{◌||◌, nat_eq, Some, None, pos, if◌then◌else◌};
 ghost use Rattle.ts_geometry.specs.Directions.{sp};
 
-use crate::{
-    Command, DviBad, DviFault, DviKind, DviPage, FontDef, Mark, What, Widths, fonts, next_command,
-    put_short, put_signed, put_unsigned, read_pages,
-};
+use crate::{DviBad, DviFault, DviKind, DviPage, FontDef, Mark, What, Widths, fonts, read_pages};
 use std::alloc::Global;
 use std::test::Fail;
 use ts_base::List;
 use ts_geometry::{Dir, Point, Sp};
 use ts_outside::FileName;
-
-#[test]
-fn numbers_are_put_with_the_highest_byte_first(rt: HostRuntime) -> Result<(), Fail> {
-    let mut out = Vec::new(rt.alloc());
-    put_unsigned(&mut out, 25_400_000)?;
-    put_unsigned(&mut out, 473_628_672)?;
-    put_signed(&mut out, -327_680)?;
-    put_signed(&mut out, 573_440)?;
-    put_short(&mut out, 0x2422)?;
-    let bytes = [
-        0x01, 0x83, 0x92, 0xC0, 0x1C, 0x3B, 0x00, 0x00, 0xFF, 0xFB, 0x00, 0x00, 0x00, 0x08, 0xC0,
-        0x00, 0x24, 0x22,
-    ];
-    assert_eq!(rt; out.as_slice(), bytes.as_slice());
-    Ok(())
-}
 
 // Two characters of two fonts, the first in tate.
 const FILE: [u8; 208] = [
@@ -50,7 +31,8 @@ impl Widths for TwoCharacters {
     ghost use Rattle.std.specs.Prelude.{◌||◌, nat_eq, Some, None, pos, if◌then◌else◌};
     ghost use Rattle.ts_geometry.specs.Directions.{sp};
 
-    ghost width_of = { λ widths font code. if nat_eq code 13377 || nat_eq code 9250 then Some (sp (pos 655360)) else None };
+    ghost width_of = { λ widths font code. if nat_eq code 13377 || nat_eq code 9250
+        then Some (sp (pos 655360)) else None };
 
     fn width(&self, _font: &FontDef, code: u32) -> Option<Sp> {
         if code == 0x3441 || code == 0x2422 {
@@ -120,7 +102,6 @@ fn a_file_of_two_characters_has_two_marks(rt: HostRuntime) -> Result<(), Fail> {
     let named: [(i32, &[u8]); 2] = [(0, b"jt10"), (1, b"ja10")];
     let defined = defined(rt.alloc(), &named)?;
     assert!(rt; fonts(rt.alloc(), &FILE)?.as_slice() == defined.as_slice());
-    assert_eq!(rt; next_command(&FILE, 108), Ok((Command::Set(0x3441), 111)));
     Ok(())
 }
 

@@ -9,14 +9,16 @@ use Rattle.std.proofs.lemmas.List.{append-nil}
 use Rattle.std.proofs.lemmas.List.Concat.{flat_map-cons}
 use Rattle.ts_geometry.specs.declared.measure.Sp.{Sp}
 use Rattle.ts_geometry.specs.declared.direction.Dir.TheVariants.{Yoko}
-use Rattle.dvi_code.specs.declared.font.FontDef.{FontDef}
+use Rattle.dvi_commands.specs.declared.font.FontDef.{FontDef}
 use Rattle.dvi_code.specs.declared.mark.Mark.{Mark}
-use Rattle.dvi_code.specs.Commands as c
-use Rattle.dvi_code.specs.Commands.{Command}
-use Rattle.dvi_code.specs.Structure.{Inside, inside}
+use Rattle.dvi_commands.specs.Commands as c
+use Rattle.dvi_commands.specs.Commands.{Command}
+use Rattle.dvi_structure.specs.Structure.{Inside, inside}
 use Rattle.dvi_code.specs.Pages.{Widths, Pen, Spot, spot, drawn, moved, is_in_range, stepped, glyph_set}
-use Rattle.dvi_code.specs.Reading.{Spells, all_inside, Draws}
-use Rattle.dvi_code.proofs.Writing.{bodies_join, spellings_join, nothing_drawn, one_drawn, commands_draw_on, says_push, says_right, says_down, says_set, says_pop}
+use Rattle.dvi_commands.specs.Spelling.{Spells}
+use Rattle.dvi_code.specs.Reading.{all_inside, Draws}
+use Rattle.dvi_commands.proofs.Writing.{spellings_join, says_push, says_right, says_down, says_set, says_pop}
+use Rattle.dvi_code.proofs.Writing.{bodies_join, nothing_drawn, one_drawn, commands_draw_on}
 use Rattle.ts_job.specs.declared.writer.page.Glyph.{Glyph}
 use Rattle.ts_job.specs.Written.{right_bytes, down_bytes, set_bytes, glyph_bytes}
 use Rattle.std.specs.Option.{IsSomeAnd}

@@ -13,11 +13,11 @@ use Rattle.ts_job.specs.declared.writer.page.Glyph.{Glyph}
 use Rattle.ts_job.specs.Form.{Form}
 use Rattle.ts_job.specs.Meaning.{width_of, glyphs_from, box_height, font_def, page_of}
 use Rattle.dvi_code.specs.declared.page.DviPage.{DviPage}
-use Rattle.dvi_code.specs.declared.fault.DviBad.{DviBad}
+use Rattle.dvi_commands.specs.declared.fault.DviBad.{DviBad}
 use Rattle.ts_geometry.specs.Numbers.{IsWithin}
 use Rattle.ts_job.specs.Setting.{most_of_one, HasCell, GivesWidths}
 use Rattle.ts_job.specs.Meant.{HasWidths, page_meant}
-use Rattle.dvi_code.specs.declared.font.FontDef.{FontDef}
+use Rattle.dvi_commands.specs.declared.font.FontDef.{FontDef}
 use Rattle.dvi_code.specs.Pages.{Widths}
 use Rattle.std.specs.List.{All}
 

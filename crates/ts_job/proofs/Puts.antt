@@ -4,9 +4,9 @@ use Rattle.std.specs.List.{flat_map}
 use Rattle.std.proofs.lemmas.List.{append-nil, take_more}
 use Rattle.std.proofs.lemmas.List.Concat.{flat_map-cons}
 use Rattle.byteorder.specs.Endian.{big_bytes}
-use Rattle.dvi_code.specs.declared.font.FontDef.{FontDef}
+use Rattle.dvi_commands.specs.declared.font.FontDef.{FontDef}
 use Rattle.ts_job.specs.declared.writer.page.Glyph.{Glyph}
-use Rattle.dvi_code.specs.Fields.{signed_bytes}
+use Rattle.dvi_commands.specs.Fields.{signed_bytes}
 use Rattle.ts_job.specs.Written.{unit_bytes, preamble_bytes, bop_bytes, definition_bytes, right_bytes, down_bytes, set_bytes, glyph_bytes, page_bytes, post_bytes, post_post_bytes, fill_count, closing_bytes, end_bytes, file_bytes}
 
 both : (x y z a b : List ℕ) → y ≡ x ++ a → z ≡ y ++ b → z ≡ x ++ (a ++ b)

@@ -11,16 +11,18 @@ use Rattle.std.proofs.lemmas.Bool.Decides.{nat_tests}
 use Rattle.std.proofs.lemmas.List.Elements.{recursion_from_All}
 use Rattle.ts_geometry.specs.declared.direction.Dir.TheVariants.{Yoko}
 use Rattle.ts_base.specs.Agreement.{◌>>=◌}
-use Rattle.dvi_code.specs.declared.fault.DviBad.{DviBad}
-use Rattle.dvi_code.specs.declared.font.FontDef.{FontDef}
-use Rattle.dvi_code.specs.Fields.{unsigned, signed, counts}
-use Rattle.dvi_code.specs.Commands as c
-use Rattle.dvi_code.specs.Commands.{Command, Preamble, Postamble, command, command_after, group_after, font_after, file_after, pre_after}
-use Rattle.dvi_code.specs.Places.{said, fill, placed}
-use Rattle.dvi_code.specs.Structure.{is_sound_font, is_same_font, Sheet, Shape, Walked, inside, fresh, start, between, behind, ended, at_start, at_gap, in_page, at_back, filled, walk, walked, answer}
+use Rattle.dvi_commands.specs.declared.fault.DviBad.{DviBad}
+use Rattle.dvi_commands.specs.declared.font.FontDef.{FontDef}
+use Rattle.dvi_commands.specs.Fields.{unsigned, signed, counts}
+use Rattle.dvi_commands.specs.Commands as c
+use Rattle.dvi_commands.specs.Commands.{Command, Preamble, Postamble, command, command_after, group_after, font_after, file_after, pre_after}
+use Rattle.dvi_structure.specs.Places.{said, fill, placed}
+use Rattle.dvi_structure.specs.Structure.{is_sound_font, is_same_font, Sheet, Shape, Walked, inside, fresh, start, between, behind, ended, at_start, at_gap, in_page, at_back, filled, walk, walked, answer}
 use Rattle.dvi_code.specs.Pages.{Widths, Pen, clean, spot, drawn, page_of, page_from, pages_of, file_pages}
-use Rattle.dvi_code.specs.Reading.{Spells, Leads, all_inside, paged, plain_definition}
-use Rattle.dvi_code.proofs.Writing.{bytes_lead_on, commands_lead, bodies_lead, last_placed, one_drawn, says_eop, says_font_def, says_post, says_post_post}
+use Rattle.dvi_commands.specs.Spelling.{Spells, plain_definition}
+use Rattle.dvi_code.specs.Reading.{Leads, all_inside, paged}
+use Rattle.dvi_commands.proofs.Writing.{says_eop, says_font_def, says_post, says_post_post}
+use Rattle.dvi_code.proofs.Writing.{bytes_lead_on, commands_lead, bodies_lead, last_placed, one_drawn}
 use Rattle.ts_job.specs.declared.writer.page.Glyph.{Glyph}
 use Rattle.ts_job.specs.Written.{HasNumbers, unit_bytes, preamble_bytes, bop_bytes, definition_bytes, glyph_bytes, page_bytes, post_bytes, post_post_bytes, fill_count, closing_bytes, end_bytes, file_bytes}
 use Rattle.std.specs.Option.{IsSomeAnd}

@@ -4,7 +4,7 @@ use Rattle.std.specs.Option.{IsSomeAnd}
 use Rattle.std.specs.List.{All}
 use Rattle.ts_geometry.specs.Numbers.{IsWithin, max_dimen}
 use Rattle.ts_geometry.specs.declared.direction.Dir.TheVariants.{Yoko}
-use Rattle.dvi_code.specs.declared.font.FontDef.{FontDef}
+use Rattle.dvi_commands.specs.declared.font.FontDef.{FontDef}
 use Rattle.dvi_code.specs.declared.mark.What.TheVariants as what
 use Rattle.dvi_code.specs.declared.mark.Mark.{Mark}
 use Rattle.dvi_code.specs.declared.page.DviPage.{DviPage}

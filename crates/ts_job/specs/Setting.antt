@@ -6,7 +6,7 @@ use Rattle.jis_codes.specs.Kuten.{Kuten, IsKuten}
 use Rattle.jis_codes.specs.Spellings.{jis}
 use Rattle.jis_codes.specs.Numbers.{number_of}
 use Rattle.jfm_load.specs.Metrics.{Metric}
-use Rattle.dvi_code.specs.declared.font.FontDef.{FontDef}
+use Rattle.dvi_commands.specs.declared.font.FontDef.{FontDef}
 use Rattle.dvi_code.specs.Pages.{Widths}
 use Rattle.ts_job.specs.declared.writer.page.Glyph.{Glyph}
 use Rattle.ts_job.specs.Form.{Form, is_name_byte}

@@ -3,8 +3,8 @@ use Rattle.std.specs.Prelude.{ℕ, ◌+◌, ◌-◌, ◌%◌, ◌^◌, ◌<◌, 
 use Rattle.std.specs.List.{flat_map}
 use Rattle.byteorder.specs.Endian.{big_bytes}
 use Rattle.ts_geometry.specs.declared.measure.Sp.{Sp}
-use Rattle.dvi_code.specs.declared.font.FontDef.{FontDef}
-use Rattle.dvi_code.specs.Fields.{signed_bytes}
+use Rattle.dvi_commands.specs.declared.font.FontDef.{FontDef}
+use Rattle.dvi_commands.specs.Fields.{signed_bytes}
 use Rattle.ts_job.specs.declared.writer.page.Glyph.{Glyph}
 
 -- The numbers of the font fit their fields.

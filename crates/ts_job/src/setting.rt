@@ -8,7 +8,7 @@ ghost use Rattle.jis_codes.specs.Spellings.{jis};
 ghost use Rattle.jis_codes.specs.Numbers.{number_of};
 ghost use Rattle.jfm_load.specs.Metrics.{class_of, measures_of};
 ghost use Rattle.ts_geometry.specs.Numbers.{IsWithin};
-ghost use Rattle.dvi_code.specs.Structure.{is_sound_font};
+ghost use Rattle.dvi_structure.specs.Structure.{is_sound_font};
 ghost use Rattle.dvi_code.specs.Pages.{Widths, file_pages};
 ghost use Rattle.ts_job.specs.Meant.{FitsGlyph};
 ghost use Rattle.ts_job.specs.Meaning.{height_of, depth_of, box_height, box_depth, glyphs_from, font_def, page_of, ten_points};

@@ -1,37 +1,10 @@
 //! Jobs from their words to their bytes.
 
 use crate::run;
+use sample_metrics::JP10;
 use std::alloc::Global;
 use std::test::Fail;
 use ts_outside::{FileName, MemFile, MemFiles, MemSink};
-
-// One class of full width, for yoko, of a design size of 10 points.
-const JP10: [u32; 24] = [
-    0x000B_0001,
-    0x0018_0002,
-    0,
-    0x0002_0002,
-    0x0002_0001,
-    0,
-    0x0000_0006,
-    0,
-    0x00A0_0000,
-    0,
-    0x0111_0000,
-    0,
-    0x0010_0000,
-    0,
-    0x000E_0000,
-    0,
-    0x0002_0000,
-    0,
-    0,
-    0,
-    0,
-    0,
-    0x0010_0000,
-    0x0010_0000,
-];
 
 // The DVI file of two characters side by side.
 const WORKED: [u8; 172] = [

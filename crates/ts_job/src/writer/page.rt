@@ -2,7 +2,7 @@
 
 ghost use Rattle.std.specs.Prelude.{◌≡◌, ◌<◌, ◌^◌, ◌++◌, [], ◌∷◌, pos, true, length, Ok, OnOk, IfOk};
 ghost use Rattle.std.specs.List.{All, flat_map};
-ghost use Rattle.dvi_code.specs.Structure.{is_sound_font};
+ghost use Rattle.dvi_structure.specs.Structure.{is_sound_font};
 ghost use Rattle.dvi_code.specs.Pages.{Widths, file_pages};
 ghost use Rattle.ts_job.specs.Written.{right_bytes, down_bytes, set_bytes, glyph_bytes, page_bytes, end_bytes, file_bytes, HasNumbers};
 ghost use Rattle.ts_geometry.specs.Numbers.{IsWithin};

@@ -1,6 +1,6 @@
 use Rattle.std.proofs.Common.{◌≡◌, ◌-◌, ◌≤◌, ◌++◌, length, drop, Ok}
 use Rattle.ts_base.specs.Agreement.{◌>>=◌}
-use Rattle.dvi_code.specs.Places.{placed}
+use Rattle.dvi_structure.specs.Places.{placed}
 use Rattle.dvi_code.specs.Straight.{start_reader, reader_of, pages_on}
 use Rattle.dvi_code.proofs.pages.pages_with.Given as goal
 

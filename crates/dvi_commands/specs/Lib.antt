@@ -1,0 +1,5 @@
+pub mod Fields
+pub mod Commands
+pub mod Next
+pub mod Spelling
+pub mod Laws

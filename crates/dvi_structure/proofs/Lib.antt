@@ -1,0 +1,3 @@
+pub mod FontPlacing
+pub mod Outlines
+pub mod Walking

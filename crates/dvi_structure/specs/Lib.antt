@@ -1,0 +1,5 @@
+pub mod Places
+pub mod Structure
+pub mod Answers
+pub mod Outline
+pub mod FontPlaces
