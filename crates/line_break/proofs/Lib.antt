@@ -1,0 +1,12 @@
+pub mod Members
+pub mod Least
+pub mod Sound
+pub mod Meaning
+pub mod ByClass
+pub mod Step
+pub mod Running
+pub mod Weights
+pub mod Prepared
+pub mod Ends
+pub mod Ended
+mod Examples

@@ -1,0 +1,13 @@
+use Rattle.std.proofs.Common.{◌∙◌, ap, pos, not, int_lt, ℤ, rules, SFits, w32, w64}
+use Rattle.std.proofs.lemmas.Int.{to_z-of_z}
+use Rattle.line_break.specs.Paragraphs.{made_pass}
+use Rattle.line_break.proofs.passes.second.Goals as goal
+
+pub returns-clause-pass : goal.returns-clause-pass
+returns-clause-pass c =
+    let tolerance_fits : SFits w32 c.args.shape.now.tolerance = search rules in
+    let fits : SFits w32 c.capped.result = search rules in
+    let emergency_fits : SFits w64 c.args.shape.now.emergency.0 = search rules in
+    let is = simp to_z-of_z at c.capped.ensures in
+    let pass = simp to_z-of_z at c.new.ensures.pass in
+    pass ∙ ap (λ (z : ℤ). made_pass c.args.items.now c.args.shape.now z (pos 0) (not (int_lt (pos 0) c.args.shape.now.emergency.0))) is

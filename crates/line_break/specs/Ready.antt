@@ -1,0 +1,71 @@
+-- What the active list stands for between two breaks.
+use Rattle.std.specs.Prelude.{[], ◌∷◌, ◌≤◌, Option, Some, None, ◌≡◌, ℕ, zero, suc, ◌+◌, ◌*◌, ◌^◌, ◌<◌, List, map, length, slice_index_or}
+use Rattle.std.specs.List.{filter, All}
+use Rattle.line_break.specs.declared.weight.Class.{Class}
+use Rattle.ts_geometry.specs.declared.direction.Dir.{Dir}
+use Rattle.box_tree.specs.declared.item.Item.{Item}
+use Rattle.box_tree.specs.Bounds.{IsDimen}
+use Rattle.box_tree.specs.Nodes.{tree_items}
+use Rattle.box_tree.specs.Sound.{IsSoundGlue, AreSound}
+use Rattle.line_break.specs.declared.shape.ParaShape.{ParaShape}
+use Rattle.line_break.specs.Lines.{Pass, demerits, skip, totals, with_extra}
+use Rattle.line_break.specs.Best.{State, start, is_open, states_to, chosen}
+use Rattle.line_break.specs.declared.states.Reached.{Reached}
+use Rattle.ts_geometry.specs.Numbers.{IsWithin}
+use Rattle.line_break.specs.declared.search.Lines.{Lines as PassLines}
+use Rattle.line_break.specs.Codes.{meaning, IsChain}
+use Rattle.line_break.specs.Running.{all_breaks}
+
+-- the pass of the lines that the code asks of
+abbrev pub pass_of : PassLines → Pass
+pass_of l = record { items = l.items.now; shape = l.shape; threshold = l.threshold; extra = l.extra.0; is_last = l.is_last }
+
+abbrev pub AreSoundItems : List Item → Type 0
+AreSoundItems items = (dir : Dir) × AreSound dir (tree_items items)
+
+-- numbers of less than 16384pt
+pub record IsSoundShape (shape : ParaShape) : Type 0 where
+  pub hsize : IsDimen shape.hsize
+  pub left : IsSoundGlue shape.left
+  pub right : IsSoundGlue shape.right
+  pub emergency : IsDimen shape.emergency
+
+-- the breaks are those of the items, and the background that of the shape
+pub record IsPrepared (l : PassLines) : Type 0 where
+  pub breaks : l.breaks.now ≡ all_breaks l.items.now
+  pub background : l.background ≡ with_extra l.extra.0 (totals (skip l.shape.left ∷ skip l.shape.right ∷ []))
+  pub sound : AreSoundItems l.items.now
+  pub shape_sound : IsSoundShape l.shape
+  pub extra : IsDimen l.extra
+  pub few : length l.items.now ≤ 700000
+  pub adj : IsWithin (2 ^ 31) l.shape.adj_demerits
+
+-- the states that are open at b
+abbrev pub open_states : Pass → ℕ → List State → List State
+open_states p b states = filter (λ x. is_open p x.at b) states
+
+-- no line has more demerits than this, or fewer than minus this
+abbrev pub HasSmallDemerits : Pass → Type 0
+HasSmallDemerits p = (c : Class) (s b : ℕ) → IsWithin (2 ^ 33) (demerits p c s b)
+
+-- the code has met the first k breaks
+pub record Ready (p : Pass) (k : ℕ) (reached : List Reached) (active : List ℕ) : Type 0 where
+  pub states : meaning reached ≡ states_to p k
+  pub opened : map (λ i. slice_index_or (states_to p k) i start) active ≡ open_states p (suc k) (states_to p k)
+  pub within : All (λ i. i < length reached) active
+  pub before : All (λ r. r.at < suc k) reached
+  pub chain : IsChain reached
+  pub small : All (λ r. IsWithin (2 ^ 33 * k) r.sum) reached
+
+-- how many pairs there are of a state and one of the first k breaks at which it is open
+unfoldable pub pairs : Pass → ℕ → ℕ
+pairs p zero = 0
+pairs p (suc k) = pairs p k + length (open_states p (suc k) (states_to p k))
+
+-- the walk of the state that the pass chooses, if it chooses one
+abbrev pub walk_of : Option State → Option (List ℕ)
+walk_of None = None
+walk_of (Some x) = Some x.walk
+
+abbrev pub chosen_walk : Pass → Option (List ℕ)
+chosen_walk p = walk_of (chosen p)

@@ -1,0 +1,339 @@
+//! One pass over a paragraph: the active list of open states.
+
+ghost use Rattle.std.specs.Prelude.{◌≡◌, ℕ, suc, ◌≤◌, ◌<◌, ◌+◌, ◌*◌, ◌^◌, ◌++◌, ◌∷◌, [], length, List, IfOk, OnOk, ℤ, pos, neg_ℤ, ◌+ℤ◌, ◌≤ℤ◌, int_le, not, Option, Some, None, ◌&&◌};
+ghost use Rattle.std.specs.List.{All, fold, filter, range_with_len};
+ghost use Rattle.ts_geometry.specs.Numbers.{IsWithin};
+ghost use Rattle.line_break.specs.Best.{last_break, states_to};
+ghost use Rattle.line_break.specs.Codes.{made, found_with, found_by, left_open, nothing, first, at_index, fits, last_rescue, found_list, new_codes, meaning, IsChain};
+ghost use Rattle.line_break.specs.Lines.{weight, closes, is_forced, penalty, place_of, plain_demerits, demerits, totals, line, with_extra};
+ghost use Rattle.line_break.specs.Ready.{pass_of, IsPrepared, Ready, HasSmallDemerits, pairs};
+ghost use Rattle.line_break.specs.Running.{AreNear};
+
+use crate::demerits::{are_apart, plain_demerits};
+use crate::items::penalty_at;
+use crate::legal::Break;
+use crate::shape::ParaShape;
+use crate::states::{Found, Reached, append, kept, offer, or_rescue};
+use crate::totals::Totals;
+use crate::weight::{Class, Weight, weight_at};
+use box_tree::Item;
+use std::alloc::{AllocError, Global};
+use std::sync::ledger::Ledger;
+use ts_base::Steps;
+use ts_geometry::Sp;
+
+/// What a pass asks of its lines. The background is the total of the skips, with what the pass adds
+/// to the stretch.
+#[derive(Clone, Copy)]
+pub(crate) struct Lines<'a> {
+    pub(crate) items: &'a [Item],
+    pub(crate) breaks: &'a [Break],
+    pub(crate) shape: ParaShape,
+    pub(crate) background: Totals,
+    pub(crate) threshold: i32,
+    pub(crate) extra: Sp,
+    pub(crate) is_last: bool,
+}
+
+impl<'a> Lines<'a> {
+    /// Returns the totals of the line from break `s` to break `b`.
+    fn totals(&self, s: usize, b: usize) -> Totals
+        requires prepared { IsPrepared self.now }
+        requires before { s < b }
+        requires inside { b ≤ last_break (pass_of self.now) }
+        ensures value { result
+            ≡ with_extra (pass_of self.now).extra (totals (line (pass_of self.now) s b)) }
+        ensures near { AreNear (2 ^ 58) result }
+    {
+        let start = self.breaks[s];
+        let end = self.breaks[b];
+        if start.kept < end.place {
+            self.background.plus(&start.after.minus(&end.from))
+        } else {
+            self.background
+        }
+    }
+
+    /// Returns how the line from break `s` to break `b` fits.
+    #[tactic(auto, unfolding(crate::specs::Lines::weight))]
+    fn weigh(&self, s: usize, b: usize) -> Weight
+        requires prepared { IsPrepared self.now }
+        requires before { s < b }
+        requires inside { b ≤ last_break (pass_of self.now) }
+        ensures { result ≡ weight (pass_of self.now) s b }
+    {
+        weight_at(self.shape.hsize, &self.totals(s, b))
+    }
+
+    fn adj_demerits(&self) -> i32
+        ensures { result ≡ (pass_of self.now).shape.adj_demerits }
+    {
+        self.shape.adj_demerits
+    }
+
+    fn is_last(&self) -> bool
+        ensures { result ≡ (pass_of self.now).is_last }
+    {
+        self.is_last
+    }
+
+    /// Returns the place of a break after the start.
+    #[tactic(auto, using(crate::proofs::Prepared::inside, crate::proofs::Prepared::place_is, crate::proofs::Prepared::place_inside))]
+    pub(crate) fn place(&self, b: usize) -> usize
+        requires prepared { IsPrepared self.now }
+        requires start { 0 < b }
+        requires inside { b ≤ last_break (pass_of self.now) }
+        ensures value { result ≡ place_of (pass_of self.now) b }
+        ensures inside { result < length self.now.items.now }
+    {
+        self.breaks[b].place
+    }
+
+    fn penalty(&self, b: usize) -> i64
+        requires prepared { IsPrepared self.now }
+        requires start { 0 < b }
+        requires inside { b ≤ last_break (pass_of self.now) }
+        ensures { result ≡ penalty (pass_of self.now) b }
+    {
+        penalty_at(&self.items[self.place(b)])
+    }
+
+    fn is_forced(&self, b: usize) -> bool
+        requires prepared { IsPrepared self.now }
+        requires start { 0 < b }
+        requires inside { b ≤ last_break (pass_of self.now) }
+        ensures { result ≡ is_forced (pass_of self.now) b }
+    {
+        self.penalty(b) <= -10_000
+    }
+
+    /// Returns the demerits of the line to `b` that fits like this, but for `\adjdemerits`.
+    fn plain_demerits(&self, _s: usize, b: usize, line: Weight) -> i64
+        requires prepared { IsPrepared self.now }
+        requires start { 0 < b }
+        requires inside { b ≤ last_break (pass_of self.now) }
+        requires line { line ≡ weight (pass_of self.now) _s b }
+        ensures value { result ≡ plain_demerits (pass_of self.now) _s b }
+        ensures bounded { IsWithin (2 ^ 32) result }
+    {
+        plain_demerits(self.shape.line_penalty, line.badness, self.penalty(b))
+    }
+}
+
+/// The demerits of the line from `x` to `b`.
+fn demerits_after(lines: &Lines, b: usize, x: Reached, line: Weight) -> i64
+    requires prepared { IsPrepared lines.now }
+    requires start { 0 < b }
+    requires inside { b ≤ last_break (pass_of lines.now) }
+    requires line { line ≡ weight (pass_of lines.now) x.at b }
+    ensures value { result ≡ demerits (pass_of lines.now) x.class x.at b }
+    ensures bounded { IsWithin (2 ^ 33) result }
+{
+    let plain = lines.plain_demerits(x.at, b, line);
+    if are_apart(x.class, line.class) {
+        plain + lines.adj_demerits() as i64
+    } else {
+        plain
+    }
+}
+
+/// Keeps what the line from the state with the index `i` leads to if it is admissible.
+fn find_from(lines: &Lines, b: usize, found: Found, i: usize, x: Reached, line: Weight) -> Found
+    requires prepared { IsPrepared lines.now }
+    requires start { 0 < b }
+    requires inside { b ≤ last_break (pass_of lines.now) }
+    requires line { line ≡ weight (pass_of lines.now) x.at b }
+    requires bounded { IsWithin (2 ^ 60) x.sum }
+    ensures { result ≡ found_with (pass_of lines.now) b found i x }
+{
+    if is_fit(line, lines.threshold) {
+        let demerits = demerits_after(lines, b, x, line);
+        offer(found, reach(b, line, x, demerits, i))
+    } else {
+        found
+    }
+}
+
+fn is_fit(line: Weight, threshold: i32) -> bool
+    ensures { result ≡ (not line.overfull && int_le (pos line.badness) threshold) }
+{
+    !line.overfull && line.badness as i32 <= threshold
+}
+
+fn reach(b: usize, line: Weight, x: Reached, demerits: i64, i: usize) -> Reached
+    requires bounded { IsWithin (2 ^ 60) x.sum }
+    requires demerits_bounded { IsWithin (2 ^ 33) demerits }
+    ensures { result ≡ made b line x demerits i }
+{
+    Reached {
+        at: b,
+        class: line.class,
+        sum: x.sum + demerits,
+        from: i,
+    }
+}
+
+/// What a break comes to: the best of each class, the states that stay open, and the line that is
+/// taken where nothing else is left.
+#[derive(Drop)]
+pub(crate) struct Met {
+    found: Found,
+    active: Vec<usize>,
+    rescue: Option<Reached>,
+}
+
+/// Weighs the line from each open state to `b`.
+#[tactic(auto, unfolding(crate::specs::Lines::closes))]
+fn weigh_open<L: Ledger>(
+    alloc: Global,
+    lines: &Lines,
+    b: usize,
+    states: &[Reached],
+    active: &[usize],
+    steps: &mut Steps<L>,
+) -> Result<Met, AllocError>
+    requires prepared { IsPrepared lines.now }
+    requires start { 0 < b }
+    requires end { b ≤ last_break (pass_of lines.now) }
+    requires within { All (λ i. i < length states.now) active.now }
+    requires before { All (λ x. x.at < b) states.now }
+    requires bounded { All (λ x. IsWithin (2 ^ 60) x.sum) states.now }
+    ensures found { IfOk result (λ met. met.found
+        ≡ found_by (pass_of lines.now) b states.now active.now) }
+    ensures active { IfOk result (λ met. met.active.items
+        ≡ left_open (pass_of lines.now) b states.now active.now) }
+    ensures rescue { IfOk result (λ met. met.rescue
+        ≡ last_rescue (pass_of lines.now) b states.now active.now) }
+    ensures steps { OnOk result (steps.new ≡ steps.old + length active.now) }
+    ensures most { steps.new ≤ steps.old + length active.now }
+    ensures least { steps.old ≤ steps.new }
+{
+    let mut rescue = None;
+    let mut found = Found {
+        very_loose: None,
+        loose: None,
+        decent: None,
+        tight: None,
+    };
+    let mut left = Vec::new(alloc);
+    let forced = lines.is_forced(b);
+    for i in active {
+        let x = states[*i];
+        steps.tick();
+        let line = lines.weigh(x.at, b);
+        found = find_from(lines, b, found, *i, x, line);
+        rescue = Some(Reached {
+            at: b,
+            class: line.class,
+            sum: x.sum,
+            from: *i,
+        });
+        if !line.overfull && !forced {
+            left.push(*i)?;
+        }
+    }
+    Ok(Met {
+        found,
+        active: left,
+        rescue,
+    })
+}
+
+/// Meets the break `b`: weighs the lines to it, appends the states that are new, and gives the
+/// indices of the open ones.
+fn meet<L: Ledger>(
+    alloc: Global,
+    lines: &Lines,
+    b: usize,
+    states: &mut Vec<Reached>,
+    active: &[usize],
+    steps: &mut Steps<L>,
+) -> Result<Vec<usize>, AllocError>
+    requires prepared { IsPrepared lines.now }
+    requires start { 0 < b }
+    requires end { b ≤ last_break (pass_of lines.now) }
+    requires within { All (λ i. i < length states.old.items) active.now }
+    requires before { All (λ x. x.at < b) states.old.items }
+    requires bounded { All (λ x. IsWithin (2 ^ 60) x.sum) states.old.items }
+    requires found { All (λ r. IsWithin (2 ^ 61) r.sum)
+        (found_list (found_by (pass_of lines.now) b states.old.items active.now)) }
+    ensures states { OnOk result (states.new.items
+        ≡ states.old.items ++ new_codes (pass_of lines.now) b states.old.items active.now) }
+    ensures active { IfOk result (λ still. still.items
+        ≡ left_open (pass_of lines.now) b states.old.items active.now
+        ++ range_with_len (length states.old.items)
+        (length (new_codes (pass_of lines.now) b states.old.items active.now))) }
+    ensures steps { OnOk result (steps.new ≡ steps.old + length active.now) }
+    ensures most { steps.new ≤ steps.old + length active.now }
+    ensures least { steps.old ≤ steps.new }
+{
+    let met = weigh_open(alloc, lines, b, states, active, steps)?;
+    let Met {
+        found,
+        active: mut left,
+        rescue,
+    } = met;
+    let new = kept(alloc, lines.adj_demerits(), &found)?;
+    let new = or_rescue(new, lines.is_last(), &left, rescue)?;
+    append(states, &mut left, &new)?;
+    Ok(left)
+}
+
+/// Meets one break more.
+fn meet_next<L: Ledger>(
+    alloc: Global,
+    lines: &Lines,
+    k: usize,
+    states: &mut Vec<Reached>,
+    active: &[usize],
+    steps: &mut Steps<L>,
+) -> Result<Vec<usize>, AllocError>
+    requires prepared { IsPrepared lines.now }
+    requires end { k < last_break (pass_of lines.now) }
+    requires few { k < 700000 }
+    requires small { HasSmallDemerits (pass_of lines.now) }
+    requires ready { Ready (pass_of lines.now) k states.old.items active.now }
+    ensures ready { IfOk result (λ still.
+        Ready (pass_of lines.now) (k + 1) states.new.items still.items) }
+    ensures steps { OnOk result
+        (steps.new + pairs (pass_of lines.now) k ≡ steps.old + pairs (pass_of lines.now) (k + 1)) }
+    ensures most { steps.new + pairs (pass_of lines.now) k
+        ≤ steps.old + pairs (pass_of lines.now) (k + 1) }
+    ensures least { steps.old ≤ steps.new }
+{
+    let still = meet(alloc, lines, k + 1, states, active, steps)?;
+    Ok(still)
+}
+
+/// Returns the states of one pass, once `n` breaks have been met.
+pub(crate) fn one_pass<L: Ledger>(
+    alloc: Global,
+    lines: &Lines,
+    n: usize,
+    steps: &mut Steps<L>,
+) -> Result<Vec<Reached>, AllocError>
+    requires prepared { IsPrepared lines.now }
+    requires end { n ≡ last_break (pass_of lines.now) }
+    requires few { n ≤ 700000 }
+    requires small { HasSmallDemerits (pass_of lines.now) }
+    ensures chain { IfOk result (λ states. IsChain states.items) }
+    ensures before { IfOk result (λ states. All (λ r. r.at < suc n) states.items) }
+    ensures states { IfOk result (λ states. meaning states.items ≡ states_to (pass_of lines.now) n) }
+    ensures steps { OnOk result (steps.new ≡ steps.old + pairs (pass_of lines.now) n) }
+    ensures most { steps.new ≤ steps.old + pairs (pass_of lines.now) n }
+    ensures least { steps.old ≤ steps.new }
+{
+    let mut states = Vec::new(alloc);
+    states.push(Reached {
+        at: 0,
+        class: Class::Decent,
+        sum: 0,
+        from: 0,
+    })?;
+    let mut active = Vec::new(alloc);
+    active.push(0)?;
+    for k in 0..n {
+        active = meet_next(alloc, lines, k, &mut states, &active, steps)?;
+    }
+    Ok(states)
+}
