@@ -1,9 +1,9 @@
 -- The word that names each primitive at the start.
 use Rattle.std.specs.Prelude.{ℕ, List, codes}
-use Rattle.env_groups.specs.declared.prim.Prim.{Prim}
-use Rattle.env_groups.specs.declared.prim.Prim.TheVariants as prims
+use Rattle.env_groups.specs.declared.prim.PrimitiveName.{PrimitiveName}
+use Rattle.env_groups.specs.declared.prim.PrimitiveName.TheVariants as prims
 
-abbrev pub word_of : Prim → List ℕ
+abbrev pub word_of : PrimitiveName → List ℕ
 word_of prims.ExpandAfter = codes "expandafter"
 word_of prims.NoExpand = codes "noexpand"
 word_of prims.CsName = codes "csname"

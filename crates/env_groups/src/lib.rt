@@ -26,5 +26,5 @@ pub use group::GroupKind;
 pub use key::{DimKey, GlueKey, IntKey, ToksKey};
 pub use meaning::{MacroDef, Meaning};
 pub use parameter::{DimParam, GlueParam, IntParam, ToksParam};
-pub use prim::Prim;
+pub use prim::PrimitiveName as Prim;
 pub use situation::{Mode, Situation};

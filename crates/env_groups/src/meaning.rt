@@ -3,7 +3,7 @@
 ghost use Rattle.std.specs.Prelude.{◌≡◌, slice_get};
 ghost use Rattle.env_groups.specs.StartMeanings.{start_meaning};
 
-use crate::prim::{Prim, START_PRIMS};
+use crate::prim::{PrimitiveName, START_PRIMS};
 use box_tree::FontNo;
 use tok_lists::{SharedTokens, Token};
 
@@ -32,7 +32,7 @@ impl MacroDef {
 #[derive(Debug, Drop, PartialEq, Eq)]
 pub enum Meaning {
     Undefined,
-    Primitive(Prim),
+    Primitive(PrimitiveName),
     Macro(MacroDef),
     /// A character, by `\let`.
     Letter(Token),
@@ -70,7 +70,7 @@ impl Meaning {
     }
 }
 
-fn primitive_in(prims: &[Prim], at: usize) -> Option<Prim>
+fn primitive_in(prims: &[PrimitiveName], at: usize) -> Option<PrimitiveName>
     ensures { result ≡ slice_get prims.now at }
 {
     prims.get(at).copied()
