@@ -9,4 +9,5 @@ pub mod Weights
 pub mod Prepared
 pub mod Ends
 pub mod Ended
+pub mod Inside
 mod Examples

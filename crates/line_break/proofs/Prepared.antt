@@ -19,7 +19,7 @@ use Rattle.line_break.specs.declared.search.Lines.{Lines as PassLines}
 use Rattle.line_break.specs.declared.totals.Totals.{Totals}
 use Rattle.line_break.specs.Best.{last_break}
 use Rattle.line_break.specs.Lines.{is_dropped, is_legal, legal_breaks, place_in, place_after_start, without_dropped, kept_between, kept_to, skip, with_skips, line, penalty, penalty_at, penalty_of, totals, with_extra}
-use Rattle.line_break.specs.Ready.{pass_of, IsPrepared, AreSoundItems}
+use Rattle.line_break.specs.Ready.{pass_of, IsPrepared, IsBeforeEnd, AreSoundItems}
 use Rattle.line_break.specs.Running.{AreNear, none, plus, minus, break_at, kept_place, all_breaks}
 use Rattle.line_break.proofs.Running.{from_near, after_near, totals_near, nearer, front_is}
 use Rattle.line_break.proofs.Step.{all_range, all_filter}
@@ -256,18 +256,6 @@ background_near l q =
     let near = totals_near Yoko skips (omega arith) (q.shape_sound.left, (q.shape_sound.right, tt)) in
     subst (λ (t : Totals). AreNear (2 ^ 54) t) (sym q.background) (with_more l.extra.0 (totals skips) q.extra near)
 
-lesser : (a b : Totals) → AreNear (2 ^ 53) a → AreNear (2 ^ 53) b → AreNear (2 ^ 54) (minus a b)
-lesser a b h k = record { width = by _ _ h.width k.width; stretch = by _ _ h.stretch k.stretch; fil = by _ _ h.fil k.fil; fill = by _ _ h.fill k.fill; filll = by _ _ h.filll k.filll; shrink = by _ _ h.shrink k.shrink }
-  where
-    by : (x y : ℤ) → IsWithin (2 ^ 53) x → IsWithin (2 ^ 53) y → IsWithin (2 ^ 54) (x -ℤ y)
-    by x y u v = (omega (arith, ints), omega (arith, ints))
-
-greater : (a b : Totals) → AreNear (2 ^ 54) a → AreNear (2 ^ 54) b → AreNear (2 ^ 58) (plus a b)
-greater a b h k = record { width = by _ _ h.width k.width; stretch = by _ _ h.stretch k.stretch; fil = by _ _ h.fil k.fil; fill = by _ _ h.fill k.fill; filll = by _ _ h.filll k.filll; shrink = by _ _ h.shrink k.shrink }
-  where
-    by : (x y : ℤ) → IsWithin (2 ^ 54) x → IsWithin (2 ^ 54) y → IsWithin (2 ^ 58) (x +ℤ y)
-    by x y u v = (omega (arith, ints), omega (arith, ints))
-
 up_54 : (m : ℕ) (t : Totals) → 2 ^ 54 ≤ m → AreNear (2 ^ 54) t → AreNear m t
 up_54 m t l h = record { width = by _ h.width; stretch = by _ h.stretch; fil = by _ h.fil; fill = by _ h.fill; filll = by _ h.filll; shrink = by _ h.shrink }
   where
@@ -289,15 +277,55 @@ background_60 l q = up_54 (2 ^ 60) l.background (omega arith) (background_near l
 pub background_58 : (l : PassLines) → IsPrepared l → AreNear (2 ^ 58) l.background
 background_58 l q = up_54 (2 ^ 58) l.background (omega arith) (background_near l q)
 
-between_near : (l : PassLines) (s b : ℕ) (d : Break) → IsPrepared l → s ≤ last_break (pass_of l) → b ≤ last_break (pass_of l) → AreNear (2 ^ 54) (minus (get_or l.breaks.now s d).after (get_or l.breaks.now b d).from)
-between_near l s b d q g h = lesser _ _ (break_near l s d q g).after (break_near l b d q h).from
+before_end_near : (l : PassLines) (b : ℕ) (d : Break) → IsPrepared l → b ≤ last_break (pass_of l) → AreNear (2 ^ 55) (minus l.background (get_or l.breaks.now b d).from)
+before_end_near l b d q h = record { width = by _ _ near.width end.width; stretch = by _ _ near.stretch end.stretch; fil = by _ _ near.fil end.fil; fill = by _ _ near.fill end.fill; filll = by _ _ near.filll end.filll; shrink = by _ _ near.shrink end.shrink }
+  where
+    near : AreNear (2 ^ 54) l.background
+    near = background_near l q
 
-pub between_60 : (l : PassLines) (s b : ℕ) (d : Break) (t : Totals) → IsPrepared l → s ≤ last_break (pass_of l) → b ≤ last_break (pass_of l) → t ≡ minus (get_or l.breaks.now s d).after (get_or l.breaks.now b d).from → AreNear (2 ^ 60) t
-between_60 l s b d t q g h e = subst (λ (u : Totals). AreNear (2 ^ 60) u) (sym e) (up_54 (2 ^ 60) _ (omega arith) (between_near l s b d q g h))
+    end : AreNear (2 ^ 53) (get_or l.breaks.now b d).from
+    end = (break_near l b d q h).from
 
-pub line_58 : (l : PassLines) (s b : ℕ) (d : Break) (t u : Totals) → IsPrepared l → s ≤ last_break (pass_of l) → b ≤ last_break (pass_of l) → t ≡ minus (get_or l.breaks.now s d).after (get_or l.breaks.now b d).from → u ≡ plus l.background t → AreNear (2 ^ 58) u
+    by : (x y : ℤ) → IsWithin (2 ^ 54) x → IsWithin (2 ^ 53) y → IsWithin (2 ^ 55) (x -ℤ y)
+    by x y u v = (omega (arith, ints, u, v), omega (arith, ints, u, v))
+
+pub before_60 : (l : PassLines) (b : ℕ) (t : Totals) → IsPrepared l → b ≤ last_break (pass_of l) → IsBeforeEnd l b t → AreNear (2 ^ 60) t
+before_60 l b t q h e = let d = break_at [] 0 in subst (λ (u : Totals). AreNear (2 ^ 60) u) (sym (e d)) (nearer_55 _ (before_end_near l b d q h))
+  where
+    up : (x : ℤ) → IsWithin (2 ^ 55) x → IsWithin (2 ^ 60) x
+    up x u = (omega (arith, ints, u), omega (arith, ints, u))
+
+    nearer_55 : (u : Totals) → AreNear (2 ^ 55) u → AreNear (2 ^ 60) u
+    nearer_55 u w = record { width = up _ w.width; stretch = up _ w.stretch; fil = up _ w.fil; fill = up _ w.fill; filll = up _ w.filll; shrink = up _ w.shrink }
+
+pub line_58 : (l : PassLines) (s b : ℕ) (d : Break) (t u : Totals) → IsPrepared l → s ≤ last_break (pass_of l) → b ≤ last_break (pass_of l) → IsBeforeEnd l b t → u ≡ plus t (get_or l.breaks.now s d).after → AreNear (2 ^ 58) u
 line_58 l s b d t u q g h e f =
-    subst (λ (v : Totals). AreNear (2 ^ 58) v) (sym f) (greater l.background t (background_near l q) (subst (λ (v : Totals). AreNear (2 ^ 54) v) (sym e) (between_near l s b d q g h)))
+    subst (λ (v : Totals). AreNear (2 ^ 58) v) (sym f) (both t (get_or l.breaks.now s d).after (subst (λ (v : Totals). AreNear (2 ^ 55) v) (sym (e d)) (before_end_near l b d q h)) (break_near l s d q g).after)
+  where
+    by : (x y : ℤ) → IsWithin (2 ^ 55) x → IsWithin (2 ^ 53) y → IsWithin (2 ^ 58) (x +ℤ y)
+    by x y u v = (omega (arith, ints, u, v), omega (arith, ints, u, v))
+
+    both : (v w : Totals) → AreNear (2 ^ 55) v → AreNear (2 ^ 53) w → AreNear (2 ^ 58) (plus v w)
+    both v w h k = record { width = by _ _ h.width k.width; stretch = by _ _ h.stretch k.stretch; fil = by _ _ h.fil k.fil; fill = by _ _ h.fill k.fill; filll = by _ _ h.filll k.filll; shrink = by _ _ h.shrink k.shrink }
+
+turn : (a b c : ℤ) → (a -ℤ c) +ℤ b ≡ a +ℤ (b -ℤ c)
+turn a b c = omega (arith, ints)
+
+turned : (t u v : Totals) → plus (minus t v) u ≡ plus t (minus u v)
+turned t u v =
+    same _ _ _ _ _ _ _ _ _ _ _ _
+    (turn t.width.0 u.width.0 v.width.0)
+    (turn t.stretch.0 u.stretch.0 v.stretch.0)
+    (turn t.fil.0 u.fil.0 v.fil.0)
+    (turn t.fill.0 u.fill.0 v.fill.0)
+    (turn t.filll.0 u.filll.0 v.filll.0)
+    (turn t.shrink.0 u.shrink.0 v.shrink.0)
+
+pub line_is : (l : PassLines) (s b : ℕ) (d : Break) (t : Totals) → IsPrepared l → s < b → b ≤ last_break (pass_of l) → IsBeforeEnd l b t → (get_or l.breaks.now s d).kept < (get_or l.breaks.now b d).place → plus t (get_or l.breaks.now s d).after ≡ with_extra l.extra.0 (totals (line (pass_of l) s b))
+line_is l s b d t q lt h e k =
+    ap (λ (u : Totals). plus u (get_or l.breaks.now s d).after) (e d)
+    ∙ turned l.background (get_or l.breaks.now s d).after (get_or l.breaks.now b d).from
+    ∙ line_totals l s b d q lt h k
 
 -- ---- the item at a break
 

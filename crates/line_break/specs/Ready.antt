@@ -14,7 +14,9 @@ use Rattle.line_break.specs.declared.states.Reached.{Reached}
 use Rattle.ts_geometry.specs.Numbers.{IsWithin}
 use Rattle.line_break.specs.declared.search.Lines.{Lines as PassLines}
 use Rattle.line_break.specs.Codes.{meaning, IsChain}
-use Rattle.line_break.specs.Running.{all_breaks}
+use Rattle.line_break.specs.declared.legal.Break.{Break}
+use Rattle.line_break.specs.declared.totals.Totals.{Totals}
+use Rattle.line_break.specs.Running.{minus, all_breaks}
 
 -- the pass of the lines that the code asks of
 abbrev pub pass_of : PassLines → Pass
@@ -39,6 +41,10 @@ pub record IsPrepared (l : PassLines) : Type 0 where
   pub extra : IsDimen l.extra
   pub few : length l.items.now ≤ 700000
   pub adj : IsWithin (2 ^ 31) l.shape.adj_demerits
+
+-- the background less the totals of the items from break b on
+abbrev pub IsBeforeEnd : PassLines → ℕ → Totals → Type 0
+IsBeforeEnd l b t = (d : Break) → t ≡ minus l.background (slice_index_or l.breaks.now b d).from
 
 -- the states that are open at b
 abbrev pub open_states : Pass → ℕ → List State → List State

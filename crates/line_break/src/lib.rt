@@ -2,6 +2,8 @@
 //! chapter 14).
 #![tactic(auto)]
 
+#[cfg(test)]
+mod break_tests;
 mod demerits;
 mod end;
 mod fault;

@@ -6,7 +6,7 @@ ghost use Rattle.ts_geometry.specs.Numbers.{IsWithin};
 ghost use Rattle.line_break.specs.Best.{last_break, states_to};
 ghost use Rattle.line_break.specs.Codes.{made, found_with, found_by, left_open, nothing, first, at_index, fits, last_rescue, found_list, new_codes, meaning, IsChain};
 ghost use Rattle.line_break.specs.Lines.{weight, closes, is_forced, penalty, place_of, plain_demerits, demerits, totals, line, with_extra};
-ghost use Rattle.line_break.specs.Ready.{pass_of, IsPrepared, Ready, HasSmallDemerits, pairs};
+ghost use Rattle.line_break.specs.Ready.{pass_of, IsPrepared, IsBeforeEnd, Ready, HasSmallDemerits, pairs};
 ghost use Rattle.line_break.specs.Running.{AreNear};
 
 use crate::demerits::{are_apart, plain_demerits};
@@ -36,19 +36,29 @@ pub(crate) struct Lines<'a> {
 }
 
 impl<'a> Lines<'a> {
+    /// Returns the background less the totals of the items from break `b` on, which every line to
+    /// `b` has in it.
+    fn before_end(&self, b: usize) -> Totals
+        requires prepared { IsPrepared self.now }
+        requires inside { b ≤ last_break (pass_of self.now) }
+        ensures { IsBeforeEnd self.now b result }
+    {
+        self.background.minus(&self.breaks[b].from)
+    }
+
     /// Returns the totals of the line from break `s` to break `b`.
-    fn totals(&self, s: usize, b: usize) -> Totals
+    fn totals(&self, before_end: &Totals, s: usize, b: usize) -> Totals
         requires prepared { IsPrepared self.now }
         requires before { s < b }
         requires inside { b ≤ last_break (pass_of self.now) }
+        requires before_end { IsBeforeEnd self.now b before_end.now }
         ensures value { result
             ≡ with_extra (pass_of self.now).extra (totals (line (pass_of self.now) s b)) }
         ensures near { AreNear (2 ^ 58) result }
     {
-        let start = self.breaks[s];
-        let end = self.breaks[b];
-        if start.kept < end.place {
-            self.background.plus(&start.after.minus(&end.from))
+        let start = &self.breaks[s];
+        if start.kept < self.breaks[b].place {
+            before_end.plus(&start.after)
         } else {
             self.background
         }
@@ -56,13 +66,14 @@ impl<'a> Lines<'a> {
 
     /// Returns how the line from break `s` to break `b` fits.
     #[tactic(auto, unfolding(crate::specs::Lines::weight))]
-    fn weigh(&self, s: usize, b: usize) -> Weight
+    fn weigh(&self, before_end: &Totals, s: usize, b: usize) -> Weight
         requires prepared { IsPrepared self.now }
         requires before { s < b }
         requires inside { b ≤ last_break (pass_of self.now) }
+        requires before_end { IsBeforeEnd self.now b before_end.now }
         ensures { result ≡ weight (pass_of self.now) s b }
     {
-        weight_at(self.shape.hsize, &self.totals(s, b))
+        weight_at(self.shape.hsize, &self.totals(before_end, s, b))
     }
 
     fn adj_demerits(&self) -> i32
@@ -121,12 +132,12 @@ impl<'a> Lines<'a> {
 }
 
 /// The demerits of the line from `x` to `b`.
-fn demerits_after(lines: &Lines, b: usize, x: Reached, line: Weight) -> i64
+fn demerits_after(lines: &Lines, b: usize, x: &Reached, line: Weight) -> i64
     requires prepared { IsPrepared lines.now }
     requires start { 0 < b }
     requires inside { b ≤ last_break (pass_of lines.now) }
-    requires line { line ≡ weight (pass_of lines.now) x.at b }
-    ensures value { result ≡ demerits (pass_of lines.now) x.class x.at b }
+    requires line { line ≡ weight (pass_of lines.now) x.now.at b }
+    ensures value { result ≡ demerits (pass_of lines.now) x.now.class x.now.at b }
     ensures bounded { IsWithin (2 ^ 33) result }
 {
     let plain = lines.plain_demerits(x.at, b, line);
@@ -138,19 +149,17 @@ fn demerits_after(lines: &Lines, b: usize, x: Reached, line: Weight) -> i64
 }
 
 /// Keeps what the line from the state with the index `i` leads to if it is admissible.
-fn find_from(lines: &Lines, b: usize, found: Found, i: usize, x: Reached, line: Weight) -> Found
+fn find_from(lines: &Lines, b: usize, found: &mut Found, i: usize, x: &Reached, line: Weight)
     requires prepared { IsPrepared lines.now }
     requires start { 0 < b }
     requires inside { b ≤ last_break (pass_of lines.now) }
-    requires line { line ≡ weight (pass_of lines.now) x.at b }
-    requires bounded { IsWithin (2 ^ 60) x.sum }
-    ensures { result ≡ found_with (pass_of lines.now) b found i x }
+    requires line { line ≡ weight (pass_of lines.now) x.now.at b }
+    requires bounded { IsWithin (2 ^ 60) x.now.sum }
+    ensures { found.new ≡ found_with (pass_of lines.now) b found.old i x.now }
 {
     if is_fit(line, lines.threshold) {
         let demerits = demerits_after(lines, b, x, line);
-        offer(found, reach(b, line, x, demerits, i))
-    } else {
-        found
+        offer(found, reach(b, line, x, demerits, i));
     }
 }
 
@@ -160,10 +169,10 @@ fn is_fit(line: Weight, threshold: i32) -> bool
     !line.overfull && line.badness as i32 <= threshold
 }
 
-fn reach(b: usize, line: Weight, x: Reached, demerits: i64, i: usize) -> Reached
-    requires bounded { IsWithin (2 ^ 60) x.sum }
+fn reach(b: usize, line: Weight, x: &Reached, demerits: i64, i: usize) -> Reached
+    requires bounded { IsWithin (2 ^ 60) x.now.sum }
     requires demerits_bounded { IsWithin (2 ^ 33) demerits }
-    ensures { result ≡ made b line x demerits i }
+    ensures { result ≡ made b line x.now demerits i }
 {
     Reached {
         at: b,
@@ -216,12 +225,14 @@ fn weigh_open<L: Ledger>(
         tight: None,
     };
     let mut left = Vec::new(alloc);
+    left.reserve(active.len())?;
     let forced = lines.is_forced(b);
+    let before_end = lines.before_end(b);
     for i in active {
-        let x = states[*i];
+        let x = &states[*i];
         steps.tick();
-        let line = lines.weigh(x.at, b);
-        found = find_from(lines, b, found, *i, x, line);
+        let line = lines.weigh(&before_end, x.at, b);
+        find_from(lines, b, &mut found, *i, x, line);
         rescue = Some(Reached {
             at: b,
             class: line.class,

@@ -42,19 +42,17 @@ fn later(best: Option<Reached>, new: Reached) -> Option<Reached>
     }
 }
 
-/// Returns what is found once a state is offered. Where sums are equal the later one counts.
+/// Keeps a state if it is the best of its class. Where sums are equal the later one counts.
 #[tactic(auto, unfolding(crate::specs::Codes::offered))]
-pub(crate) fn offer(found: Found, new: Reached) -> Found
-    ensures { result ≡ offered found new }
+pub(crate) fn offer(found: &mut Found, new: Reached)
+    ensures { found.new ≡ offered found.old new }
 {
-    let mut found = found;
     match new.class {
         Class::VeryLoose => found.very_loose = later(found.very_loose, new),
         Class::Loose => found.loose = later(found.loose, new),
         Class::Decent => found.decent = later(found.decent, new),
         Class::Tight => found.tight = later(found.tight, new),
     }
-    found
 }
 
 fn lower(best: Option<i64>, candidate: Option<Reached>) -> Option<i64>

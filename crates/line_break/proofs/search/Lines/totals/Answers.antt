@@ -1,37 +1,27 @@
-use Rattle.std.proofs.Common.{arith, ◌≤◌, ◌∙◌, ap}
-use Rattle.line_break.specs.declared.totals.Totals.{Totals}
+use Rattle.std.proofs.Common.{arith, ◌≤◌, ◌∙◌}
 use Rattle.line_break.specs.Best.{last_break}
 use Rattle.line_break.specs.Ready.{pass_of}
-use Rattle.line_break.specs.Running.{plus}
-use Rattle.line_break.proofs.Prepared.{from_60, after_60, background_60, background_58, between_60, line_58, line_totals, line_none}
+use Rattle.line_break.proofs.Prepared.{before_60, after_60, background_58, line_58, line_is, line_none}
 use Rattle.line_break.proofs.search.Lines.totals.Goals as goal
 
-pub minus-requires-clause-near : goal.minus-requires-clause-near
-minus-requires-clause-near c = after_60 c.args.self.now c.args.s _ c.requires.prepared (omega (arith, c.requires.before, c.requires.inside))
-
-pub minus-requires-clause-other_near : goal.minus-requires-clause-other_near
-minus-requires-clause-other_near c = from_60 c.args.self.now c.args.b _ c.requires.prepared c.requires.inside
-
 pub plus-requires-clause-near : goal.plus-requires-clause-near
-plus-requires-clause-near c = background_60 c.args.self.now c.requires.prepared
+plus-requires-clause-near c = before_60 c.args.self.now c.args.b c.args.before_end.now c.requires.prepared c.requires.inside c.requires.before_end
 
 pub plus-requires-clause-other_near : goal.plus-requires-clause-other_near
-plus-requires-clause-other_near c =
+plus-requires-clause-other_near c = after_60 c.args.self.now c.args.s _ c.requires.prepared (omega (arith, c.requires.before, c.requires.inside))
+
+pub returns-then-start-self-clause-value : goal.returns-then-start-self-clause-value
+returns-then-start-self-clause-value c =
+    c.plus.ensures
+    ∙ line_is c.args.self.now c.args.s c.args.b _ c.args.before_end.now c.requires.prepared c.requires.before c.requires.inside c.requires.before_end c.if-start-self.true
+
+pub returns-then-start-self-clause-near : goal.returns-then-start-self-clause-near
+returns-then-start-self-clause-near c =
     let low : c.args.s ≤ last_break (pass_of c.args.self.now) = omega (arith, c.requires.before, c.requires.inside) in
-    between_60 c.args.self.now c.args.s c.args.b _ c.minus.result c.requires.prepared low c.requires.inside c.minus.ensures
+    line_58 c.args.self.now c.args.s c.args.b _ c.args.before_end.now c.plus.result c.requires.prepared low c.requires.inside c.requires.before_end c.plus.ensures
 
-pub returns-then-start-end-clause-value : goal.returns-then-start-end-clause-value
-returns-then-start-end-clause-value c =
-    c.plus.ensures ∙ ap (λ (t : Totals). plus c.args.self.now.background t) c.minus.ensures
-    ∙ line_totals c.args.self.now c.args.s c.args.b _ c.requires.prepared c.requires.before c.requires.inside c.if-start-end.true
+pub returns-else-start-self-clause-value : goal.returns-else-start-self-clause-value
+returns-else-start-self-clause-value c = line_none c.args.self.now c.args.s c.args.b _ c.requires.prepared c.requires.before c.requires.inside c.if-start-self.false
 
-pub returns-then-start-end-clause-near : goal.returns-then-start-end-clause-near
-returns-then-start-end-clause-near c =
-    let low : c.args.s ≤ last_break (pass_of c.args.self.now) = omega (arith, c.requires.before, c.requires.inside) in
-    line_58 c.args.self.now c.args.s c.args.b _ c.minus.result c.plus.result c.requires.prepared low c.requires.inside c.minus.ensures c.plus.ensures
-
-pub returns-else-start-end-clause-value : goal.returns-else-start-end-clause-value
-returns-else-start-end-clause-value c = line_none c.args.self.now c.args.s c.args.b _ c.requires.prepared c.requires.before c.requires.inside c.if-start-end.false
-
-pub returns-else-start-end-clause-near : goal.returns-else-start-end-clause-near
-returns-else-start-end-clause-near c = background_58 c.args.self.now c.requires.prepared
+pub returns-else-start-self-clause-near : goal.returns-else-start-self-clause-near
+returns-else-start-self-clause-near c = background_58 c.args.self.now c.requires.prepared
