@@ -10,4 +10,5 @@ pub mod Prepared
 pub mod Ends
 pub mod Ended
 pub mod Inside
+pub mod Opened
 mod Examples

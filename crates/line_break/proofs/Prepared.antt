@@ -108,14 +108,14 @@ rest_kept n (x ∷ xs) h =
 none_kept : (n : ℕ) (xs : List Item) → n ≤ lead xs → without_dropped (take n xs) ≡ []
 none_kept n xs h = let e : n - lead xs ≡ 0 = omega (arith, h) in front_kept n xs ∙ ap (λ m. take m (without_dropped xs)) e
 
-drop_nil : (n : ℕ) → ◌≡◌ {A = List Item} (drop n []) []
-drop_nil zero = refl
-drop_nil (suc n) = refl
+drop_nil_any : {X : Type 0} (n : ℕ) → ◌≡◌ {A = List X} (drop n []) []
+drop_nil_any zero = refl
+drop_nil_any (suc n) = refl
 
-drop_drop : (m n : ℕ) (xs : List Item) → drop n (drop m xs) ≡ drop (m + n) xs
-drop_drop zero n xs = let e : 0 + n ≡ n = omega arith in ap (λ k. drop k xs) (sym e)
-drop_drop (suc m) n [] = drop_nil n ∙ sym (drop_nil (suc m + n))
-drop_drop (suc m) n (x ∷ xs) = let e : suc (m + n) ≡ suc m + n = omega arith in drop_drop m n xs ∙ ap (λ k. drop k (x ∷ xs)) e
+pub drop_drop_any : {X : Type 0} (m n : ℕ) (xs : List X) → drop n (drop m xs) ≡ drop (m + n) xs
+drop_drop_any zero n xs = let e : 0 + n ≡ n = omega arith in ap (λ k. drop k xs) (sym e)
+drop_drop_any (suc m) n [] = drop_nil_any n ∙ sym (drop_nil_any (suc m + n))
+drop_drop_any (suc m) n (x ∷ xs) = let e : suc (m + n) ≡ suc m + n = omega arith in drop_drop_any m n xs ∙ ap (λ k. drop k (x ∷ xs)) e
 
 -- the totals of what is kept between two places
 pub between_totals : (xs : List Item) (s b : ℕ) → (break_at xs s).kept < b → totals (kept_between xs s b) ≡ minus (break_at xs s).after (break_at xs b).from
@@ -127,7 +127,7 @@ between_totals xs s b h =
     let whole : s + n ≡ b = omega (arith, k, h) in
     ap (λ (zs : List Item). totals zs) (front_kept n ys)
     ∙ front_totals (n - lead ys) (without_dropped ys)
-    ∙ ap (λ (zs : List Item). minus (totals (without_dropped ys)) (totals zs)) (rest_kept n ys few ∙ drop_drop s n xs ∙ ap (λ m. drop m xs) whole)
+    ∙ ap (λ (zs : List Item). minus (totals (without_dropped ys)) (totals zs)) (rest_kept n ys few ∙ drop_drop_any s n xs ∙ ap (λ m. drop m xs) whole)
 
 pub between_none : (xs : List Item) (s b : ℕ) → b ≤ (break_at xs s).kept → kept_between xs s b ≡ []
 between_none xs s b h = let k = kept_place-is s (drop s xs) in none_kept (b - s) (drop s xs) (omega (arith, k, h))

@@ -386,12 +386,6 @@ steps_plus p k rs active m n h e =
     let next : pairs p (k + 1) ≡ pairs p k + length active = ap (pairs p) one ∙ steps_next p k rs active h in
     omega (arith, next, e)
 
-pub most_plus : (p : Pass) (k : ℕ) (rs : List Reached) (active : List ℕ) (m n : ℕ) → Ready p k rs active → n ≤ m + length active → n + pairs p k ≤ m + pairs p (k + 1)
-most_plus p k rs active m n h e =
-    let one : k + 1 ≡ suc k = add-one k in
-    let next : pairs p (k + 1) ≡ pairs p k + length active = ap (pairs p) one ∙ steps_next p k rs active h in
-    omega (arith, next, e)
-
 pairs_more : (p : Pass) (k n : ℕ) → pairs p k ≤ pairs p (k + n)
 unfolding pairs
 pairs_more p k zero = let e : k + 0 ≡ k = omega arith in rw e (omega arith)

@@ -1,5 +1,5 @@
 -- What the code keeps: reached states that name the state before them by its index.
-use Rattle.std.specs.Prelude.{◌≡◌, ℕ, ◌<◌, Bool, true, false, not, ◌&&◌, List, [], ◌∷◌, ◌++◌, length, slice_index_or, Option, Some, None, if◌then◌else◌, ◌==◌, ℤ, pos, ◌+ℤ◌, int_lt, int_le, unsigned_abs}
+use Rattle.std.specs.Prelude.{◌≡◌, ℕ, ◌+◌, ◌<◌, slice_set, Bool, true, false, not, ◌&&◌, List, [], ◌∷◌, ◌++◌, length, slice_index_or, Option, Some, None, if◌then◌else◌, ◌==◌, ℤ, pos, ◌+ℤ◌, int_lt, int_le, unsigned_abs}
 use Rattle.std.specs.List.{range_with_len, fold, filter, filter_map}
 use Rattle.line_break.specs.declared.weight.Class.{Class}
 use Rattle.line_break.specs.declared.weight.Class.TheVariants.{VeryLoose, Loose, Decent, Tight}
@@ -69,6 +69,13 @@ found_by p b states active = fold (λ found i. found_with p b found i (at_index 
 -- those that stay open after b
 abbrev pub left_open : Pass → ℕ → List Reached → List ℕ → List ℕ
 left_open p b states active = filter (λ i. not (closes p (at_index states i).at b)) active
+
+-- an index put after the first `left` ones, if it stays
+abbrev pub with_open : List ℕ → ℕ → ℕ → Bool → List ℕ
+with_open active left i stays = if stays then slice_set active left i else active
+
+abbrev pub open_count : ℕ → Bool → ℕ
+open_count left stays = if stays then left + 1 else left
 
 abbrev pub found_list : Found → List Reached
 found_list found = filter_map (pick found) classes

@@ -1,10 +1,10 @@
 //! One pass over a paragraph: the active list of open states.
 
-ghost use Rattle.std.specs.Prelude.{◌≡◌, ℕ, suc, ◌≤◌, ◌<◌, ◌+◌, ◌*◌, ◌^◌, ◌++◌, ◌∷◌, [], length, List, IfOk, OnOk, ℤ, pos, neg_ℤ, ◌+ℤ◌, ◌≤ℤ◌, int_le, not, Option, Some, None, ◌&&◌};
+ghost use Rattle.std.specs.Prelude.{◌≡◌, ℕ, suc, ◌≤◌, ◌<◌, ◌+◌, ◌*◌, ◌^◌, ◌++◌, ◌∷◌, [], length, List, IfOk, OnOk, ℤ, pos, neg_ℤ, ◌+ℤ◌, ◌≤ℤ◌, int_le, not, ◌||◌, Option, Some, None, ◌&&◌};
 ghost use Rattle.std.specs.List.{All, fold, filter, range_with_len};
 ghost use Rattle.ts_geometry.specs.Numbers.{IsWithin};
 ghost use Rattle.line_break.specs.Best.{last_break, states_to};
-ghost use Rattle.line_break.specs.Codes.{made, found_with, found_by, left_open, nothing, first, at_index, fits, last_rescue, found_list, new_codes, meaning, IsChain};
+ghost use Rattle.line_break.specs.Codes.{made, found_with, found_by, left_open, nothing, first, at_index, fits, last_rescue, found_list, new_codes, meaning, with_open, open_count, IsChain};
 ghost use Rattle.line_break.specs.Lines.{weight, closes, is_forced, penalty, place_of, plain_demerits, demerits, totals, line, with_extra};
 ghost use Rattle.line_break.specs.Ready.{pass_of, IsPrepared, IsBeforeEnd, Ready, HasSmallDemerits, pairs};
 ghost use Rattle.line_break.specs.Running.{AreNear};
@@ -182,40 +182,57 @@ fn reach(b: usize, line: Weight, x: &Reached, demerits: i64, i: usize) -> Reache
     }
 }
 
-/// What a break comes to: the best of each class, the states that stay open, and the line that is
-/// taken where nothing else is left.
-#[derive(Drop)]
+/// Returns whether a start stays open after a break to which its line fits like this.
+#[tactic(auto, unfolding(crate::specs::Lines::closes))]
+fn stays_open(line: Weight, forced: bool) -> bool
+    ensures { result ≡ not (line.overfull || forced) }
+{
+    !line.overfull && !forced
+}
+
+/// Puts the index of a state that stays open after the first `left` ones, and returns how many these
+/// are then.
+fn keep_open(active: &mut Vec<usize>, left: usize, i: usize, stays: bool) -> usize
+    requires { left < length active.old.items }
+    ensures active { active.new.items ≡ with_open active.old.items left i stays }
+    ensures left { result ≡ open_count left stays }
+{
+    if stays {
+        active[left] = i;
+        left + 1
+    } else {
+        left
+    }
+}
+
+/// What a break comes to: the best of each class, and the line that is taken where nothing else is
+/// left.
+#[derive(Clone, Copy)]
 pub(crate) struct Met {
     found: Found,
-    active: Vec<usize>,
     rescue: Option<Reached>,
 }
 
-/// Weighs the line from each open state to `b`.
-#[tactic(auto, unfolding(crate::specs::Lines::closes))]
+/// Weighs the line from each open state to `b`, and keeps those states open that it doesn't close.
 fn weigh_open<L: Ledger>(
-    alloc: Global,
     lines: &Lines,
     b: usize,
     states: &[Reached],
-    active: &[usize],
+    active: &mut Vec<usize>,
     steps: &mut Steps<L>,
-) -> Result<Met, AllocError>
+) -> Met
     requires prepared { IsPrepared lines.now }
     requires start { 0 < b }
     requires end { b ≤ last_break (pass_of lines.now) }
-    requires within { All (λ i. i < length states.now) active.now }
+    requires within { All (λ i. i < length states.now) active.old.items }
     requires before { All (λ x. x.at < b) states.now }
     requires bounded { All (λ x. IsWithin (2 ^ 60) x.sum) states.now }
-    ensures found { IfOk result (λ met. met.found
-        ≡ found_by (pass_of lines.now) b states.now active.now) }
-    ensures active { IfOk result (λ met. met.active.items
-        ≡ left_open (pass_of lines.now) b states.now active.now) }
-    ensures rescue { IfOk result (λ met. met.rescue
-        ≡ last_rescue (pass_of lines.now) b states.now active.now) }
-    ensures steps { OnOk result (steps.new ≡ steps.old + length active.now) }
-    ensures most { steps.new ≤ steps.old + length active.now }
-    ensures least { steps.old ≤ steps.new }
+    ensures found { result.found ≡ found_by (pass_of lines.now) b states.now active.old.items }
+    ensures active { active.new.items
+        ≡ left_open (pass_of lines.now) b states.now active.old.items }
+    ensures rescue { result.rescue
+        ≡ last_rescue (pass_of lines.now) b states.now active.old.items }
+    ensures steps { steps.new ≡ steps.old + length active.old.items }
 {
     let mut rescue = None;
     let mut found = Found {
@@ -224,96 +241,81 @@ fn weigh_open<L: Ledger>(
         decent: None,
         tight: None,
     };
-    let mut left = Vec::new(alloc);
-    left.reserve(active.len())?;
+    let mut left = 0;
     let forced = lines.is_forced(b);
     let before_end = lines.before_end(b);
-    for i in active {
-        let x = &states[*i];
+    for k in 0..active.len() {
+        let i = active[k];
+        let x = &states[i];
         steps.tick();
         let line = lines.weigh(&before_end, x.at, b);
-        find_from(lines, b, &mut found, *i, x, line);
+        find_from(lines, b, &mut found, i, x, line);
         rescue = Some(Reached {
             at: b,
             class: line.class,
             sum: x.sum,
-            from: *i,
+            from: i,
         });
-        if !line.overfull && !forced {
-            left.push(*i)?;
-        }
+        left = keep_open(active, left, i, stays_open(line, forced));
     }
-    Ok(Met {
-        found,
-        active: left,
-        rescue,
-    })
+    active.truncate(left);
+    Met { found, rescue }
 }
 
-/// Meets the break `b`: weighs the lines to it, appends the states that are new, and gives the
-/// indices of the open ones.
+/// Meets the break `b`: weighs the lines to it, and appends the states that are new, to which `new`
+/// lends its room.
 fn meet<L: Ledger>(
-    alloc: Global,
     lines: &Lines,
     b: usize,
     states: &mut Vec<Reached>,
-    active: &[usize],
+    active: &mut Vec<usize>,
+    new: &mut Vec<Reached>,
     steps: &mut Steps<L>,
-) -> Result<Vec<usize>, AllocError>
+) -> Result<(), AllocError>
     requires prepared { IsPrepared lines.now }
     requires start { 0 < b }
     requires end { b ≤ last_break (pass_of lines.now) }
-    requires within { All (λ i. i < length states.old.items) active.now }
+    requires within { All (λ i. i < length states.old.items) active.old.items }
     requires before { All (λ x. x.at < b) states.old.items }
     requires bounded { All (λ x. IsWithin (2 ^ 60) x.sum) states.old.items }
     requires found { All (λ r. IsWithin (2 ^ 61) r.sum)
-        (found_list (found_by (pass_of lines.now) b states.old.items active.now)) }
-    ensures states { OnOk result (states.new.items
-        ≡ states.old.items ++ new_codes (pass_of lines.now) b states.old.items active.now) }
-    ensures active { IfOk result (λ still. still.items
-        ≡ left_open (pass_of lines.now) b states.old.items active.now
+        (found_list (found_by (pass_of lines.now) b states.old.items active.old.items)) }
+    ensures states { OnOk result (states.new.items ≡ states.old.items
+        ++ new_codes (pass_of lines.now) b states.old.items active.old.items) }
+    ensures active { OnOk result (active.new.items
+        ≡ left_open (pass_of lines.now) b states.old.items active.old.items
         ++ range_with_len (length states.old.items)
-        (length (new_codes (pass_of lines.now) b states.old.items active.now))) }
-    ensures steps { OnOk result (steps.new ≡ steps.old + length active.now) }
-    ensures most { steps.new ≤ steps.old + length active.now }
-    ensures least { steps.old ≤ steps.new }
+        (length (new_codes (pass_of lines.now) b states.old.items active.old.items))) }
+    ensures steps { steps.new ≡ steps.old + length active.old.items }
 {
-    let met = weigh_open(alloc, lines, b, states, active, steps)?;
-    let Met {
-        found,
-        active: mut left,
-        rescue,
-    } = met;
-    let new = kept(alloc, lines.adj_demerits(), &found)?;
-    let new = or_rescue(new, lines.is_last(), &left, rescue)?;
-    append(states, &mut left, &new)?;
-    Ok(left)
+    let met = weigh_open(lines, b, states, active, steps);
+    kept(lines.adj_demerits(), &met.found, new)?;
+    or_rescue(lines.is_last(), active, met.rescue, new)?;
+    append(states, active, new)?;
+    Ok(())
 }
 
 /// Meets one break more.
 fn meet_next<L: Ledger>(
-    alloc: Global,
     lines: &Lines,
     k: usize,
     states: &mut Vec<Reached>,
-    active: &[usize],
+    active: &mut Vec<usize>,
+    new: &mut Vec<Reached>,
     steps: &mut Steps<L>,
-) -> Result<Vec<usize>, AllocError>
+) -> Result<(), AllocError>
     requires prepared { IsPrepared lines.now }
     requires end { k < last_break (pass_of lines.now) }
     requires few { k < 700000 }
     requires small { HasSmallDemerits (pass_of lines.now) }
-    requires ready { Ready (pass_of lines.now) k states.old.items active.now }
-    ensures ready { IfOk result (λ still.
-        Ready (pass_of lines.now) (k + 1) states.new.items still.items) }
-    ensures steps { OnOk result
-        (steps.new + pairs (pass_of lines.now) k ≡ steps.old + pairs (pass_of lines.now) (k + 1)) }
-    ensures most { steps.new + pairs (pass_of lines.now) k
-        ≤ steps.old + pairs (pass_of lines.now) (k + 1) }
-    ensures least { steps.old ≤ steps.new }
+    requires ready { Ready (pass_of lines.now) k states.old.items active.old.items }
+    ensures ready { OnOk result
+        (Ready (pass_of lines.now) (k + 1) states.new.items active.new.items) }
+    ensures steps { steps.new + pairs (pass_of lines.now) k
+        ≡ steps.old + pairs (pass_of lines.now) (k + 1) }
 {
-    let still = meet(alloc, lines, k + 1, states, active, steps)?;
-    Ok(still)
+    meet(lines, k + 1, states, active, new, steps)?;
+    Ok(())
 }
 
 /// Returns the states of one pass, once `n` breaks have been met.
@@ -343,8 +345,9 @@ pub(crate) fn one_pass<L: Ledger>(
     })?;
     let mut active = Vec::new(alloc);
     active.push(0)?;
+    let mut new = Vec::new(alloc);
     for k in 0..n {
-        active = meet_next(alloc, lines, k, &mut states, &active, steps)?;
+        meet_next(lines, k, &mut states, &mut active, &mut new, steps)?;
     }
     Ok(states)
 }

@@ -90,18 +90,18 @@ fn keep(limit: i64, candidate: Option<Reached>, new: &mut Vec<Reached>) -> Resul
     }
 }
 
-/// Returns what is found with a sum of at most a limit, in the order of the classes.
+/// Puts what is found with a sum of at most a limit into `new`, in the order of the classes.
 #[tactic(auto, using(crate::proofs::ByClass::kept_in_order, std::proofs::lemmas::Grind::common_steps))]
-fn kept_below(alloc: Global, limit: i64, found: &Found) -> Result<Vec<Reached>, AllocError>
-    ensures { IfOk result (λ new. new.items
+fn kept_below(limit: i64, found: &Found, new: &mut Vec<Reached>) -> Result<(), AllocError>
+    requires { new.old.items ≡ [] }
+    ensures { OnOk result (new.new.items
         ≡ filter (λ r. int_le r.sum limit) (found_list found.now)) }
 {
-    let mut new = Vec::new(alloc);
-    keep(limit, found.very_loose, &mut new)?;
-    keep(limit, found.loose, &mut new)?;
-    keep(limit, found.decent, &mut new)?;
-    keep(limit, found.tight, &mut new)?;
-    Ok(new)
+    keep(limit, found.very_loose, new)?;
+    keep(limit, found.loose, new)?;
+    keep(limit, found.decent, new)?;
+    keep(limit, found.tight, new)?;
+    Ok(())
 }
 
 /// Returns the greatest sum that is kept.
@@ -112,38 +112,40 @@ fn limit_above(least: i64, adj: i32) -> i64
     least + (adj as i64).abs()
 }
 
-/// Returns what is found and not more than `|\adjdemerits|` above the least.
+/// Puts what is found and not more than `|\adjdemerits|` above the least into `new`, in place of
+/// what was there.
 #[tactic(auto, using(crate::proofs::ByClass::nothing_kept))]
-pub(crate) fn kept(alloc: Global, adj: i32, found: &Found) -> Result<Vec<Reached>, AllocError>
+pub(crate) fn kept(adj: i32, found: &Found, new: &mut Vec<Reached>) -> Result<(), AllocError>
     requires { All (λ r. IsWithin (2 ^ 61) r.sum) (found_list found.now) }
-    ensures { IfOk result (λ new. new.items ≡ kept_codes adj (found_list found.now)) }
+    ensures { OnOk result (new.new.items ≡ kept_codes adj (found_list found.now)) }
 {
+    new.clear();
     match least_sum(found) {
-        None => Ok(Vec::new(alloc)),
+        None => Ok(()),
         Some(least) => {
             let limit = limit_above(least, adj);
-            let new = kept_below(alloc, limit, found)?;
-            Ok(new)
+            kept_below(limit, found, new)?;
+            Ok(())
         }
     }
 }
 
-/// Returns what is new at a break: the kept ones, or the rescue where there are none.
+/// Puts the rescue into `new` where nothing is there and no state is open.
 pub(crate) fn or_rescue(
-    mut new: Vec<Reached>,
     is_last: bool,
     left: &[usize],
     rescue: Option<Reached>,
-) -> Result<Vec<Reached>, AllocError>
-    ensures { IfOk result (λ all. all.items
-        ≡ or_rescue_code (is_last && is_empty left.now) rescue new.items) }
+    new: &mut Vec<Reached>,
+) -> Result<(), AllocError>
+    ensures { OnOk result (new.new.items
+        ≡ or_rescue_code (is_last && is_empty left.now) rescue new.old.items) }
 {
     if is_last && new.is_empty() && left.is_empty() {
         if let Some(r) = rescue {
             new.push(r)?;
         }
     }
-    Ok(new)
+    Ok(())
 }
 
 /// Appends the new states, and their indices.

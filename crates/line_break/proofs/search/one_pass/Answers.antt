@@ -16,8 +16,8 @@ loop-k-init g c =
     let Q : List ℕ → Type 0 = λ is. Ready p 0 (first ∷ []) is in
     record { ready = subst P (sym states) (subst Q (sym active) (ready-start p)); steps = omega arith }
 
-pub returns-in_err-active-clause-most : goal.returns-in_err-active-clause-most
-returns-in_err-active-clause-most g c =
+pub returns-in_err-meet_next-clause-most : goal.returns-in_err-meet_next-clause-most
+returns-in_err-meet_next-clause-most g c =
     let p = pass_of c.args.lines.now in
     let grown = pairs_grow p (c.loop-k.k + 1) c.args.n (omega (arith, c.loop-k-test.true)) in
-    omega (arith, grown, c.loop-k.invariant.steps, c.in_err-active.ensures.most)
+    omega (arith, grown, c.loop-k.invariant.steps, c.in_err-meet_next.ensures.steps)
