@@ -1,6 +1,6 @@
 -- A node at a place of the nodes, where one has another next one, and one more stands at the end.
 use Prim.Native.Nat.{zero, suc}
-use Rattle.std.proofs.Common.{◌≡◌, ◌≢◌, ℕ, ◌+◌, ◌<◌, List, [], ◌∷◌, ◌++◌, length, get_or, slice_get, set, Option, Some, None, refl, sym, ap, subst, ◌∙◌, arith, length-append}
+use Rattle.std.proofs.Common.{◌≡◌, ◌≢◌, ℕ, ◌+◌, ◌<◌, List, [], ◌∷◌, ◌++◌, length, get_or, set, Option, Some, refl, sym, ap, subst, ◌∙◌, arith, length-append}
 use Rattle.box_tree.specs.declared.item.Item.{Item}
 use Rattle.node_links.specs.declared.node.Node.{Node}
 use Rattle.node_links.specs.declared.node.NodeNo.{NodeNo}

@@ -1,6 +1,6 @@
 //! A list of linked nodes.
 
-ghost use Rattle.std.specs.Prelude.{◌≡◌, ◌+◌, ◌-◌, ◌≤◌, ◌<◌, ℕ, [], ◌∷◌, ◌++◌, insert, length, slice_get, nat_eq, nat_le, if◌then◌else◌, Some, None, OnOk, OnErr, IfOk, IfSome, IfNone};
+ghost use Rattle.std.specs.Prelude.{◌≡◌, ◌+◌, ◌-◌, ◌≤◌, ◌<◌, ℕ, [], ◌∷◌, ◌++◌, insert, length, slice_get, nat_eq, nat_le, if◌then◌else◌, Some, None, OnOk, OnErr, IfOk, IsOk, IfSome, IfNone};
 ghost use Rattle.std.specs.Vec.{vec_len, vec_capacity};
 ghost use Rattle.ts_base.specs.Agreement.{Agrees};
 ghost use Rattle.node_links.specs.Lists.{AreApart, IsAt, IsNode, IsPenaltyAt, appended, list_cause, valued, with_value};
@@ -109,12 +109,14 @@ impl NodeList {
         }
     }
 
-    /// Makes room for so many insertions. Refused, it leaves the list as it was.
+    /// Makes room for so many insertions. Refused, it leaves the list as it was. It wants no memory
+    /// where so many can't fail already.
     pub fn reserve(&mut self, n: usize) -> Result<(), NoMemory>
         ensures items { self.new.items ≡ self.old.items }
         ensures numbers { self.new.numbers ≡ self.old.numbers }
         ensures more { self.old.spare ≤ self.new.spare }
         ensures room { OnOk result (n ≤ self.new.spare) }
+        ensures reserved { n ≤ self.old.spare → IsOk result }
     {
         self.nodes.reserve(n)?;
         Ok(())
@@ -145,6 +147,13 @@ impl NodeList {
         self.nodes.push_reserved(Node { item, next: None });
         self.last = 0;
         NodeNo(0)
+    }
+
+    /// Returns how many items are there. Takes no memory.
+    pub fn len(&self) -> usize
+        ensures { result ≡ length self.now.items }
+    {
+        self.nodes.len()
     }
 
     // Whether 200,000 items are there.
@@ -181,7 +190,8 @@ impl NodeList {
     }
 
     /// Appends an item, and returns the number of its node. `ListFull` comes exactly where 200,000
-    /// items are there. Refused, it leaves the list as it was. It takes one step.
+    /// items are there, and memory isn't wanted where one insertion can't fail. Refused, it leaves
+    /// the list as it was. It takes one step.
     pub fn append<L: Ledger>(
         &mut self,
         item: Item,
@@ -194,6 +204,7 @@ impl NodeList {
         ensures same { OnErr result (self.new.items ≡ self.old.items) }
         ensures kept { OnErr result (self.new.numbers ≡ self.old.numbers) }
         ensures room { self.old.spare ≤ self.new.spare + 1 }
+        ensures reserved { 1 ≤ self.old.spare → length self.old.items < 200000 → IsOk result }
         ensures counted { steps.new ≡ steps.old + 1 }
     {
         steps.tick();

@@ -1,4 +1,3 @@
-use Rattle.std.proofs.Common.{arith}
 use Rattle.node_links.proofs.Nodes.{next_is_set}
 use Rattle.node_links.proofs.list.set_next.Goals as goal
 

@@ -1,7 +1,7 @@
-use Rattle.std.proofs.Common.{refl, w64}
+use Rattle.std.proofs.Common.{w64}
 use Rattle.std.proofs.lemmas.Int.{to_z-of_z}
 use Rattle.node_links.proofs.Linking.{within_at}
-use Rattle.node_links.proofs.Valuing.{same_chain, chain_valued, still_linked, length-set_value}
+use Rattle.node_links.proofs.Valuing.{same_chain, chain_valued, still_linked}
 use Rattle.node_links.proofs.list.NodeList.set_penalty.Goals as goal
 
 pub set_value-requires : goal.set_value-requires
