@@ -1,0 +1,5 @@
+pub mod Entries
+pub mod Pieces
+pub mod Spaces
+pub mod Gaps
+pub mod Stands

@@ -1,0 +1,13 @@
+//! Japanese horizontal lists, which get their metric spaces and penalties while characters come.
+#![tactic(auto)]
+
+mod builder;
+mod character;
+mod gaps;
+mod puts;
+mod space;
+
+
+
+pub use builder::HBuilder;
+pub use character::Kinsoku;
