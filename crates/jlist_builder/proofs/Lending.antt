@@ -1,5 +1,5 @@
 -- What a builder lends.
-use Rattle.std.proofs.Common.{◌≡◌, ℕ, ◌+◌, List, [], ◌∷◌, ◌++◌, length, nat_eq, Bool, true, false, Option, Some, None, ap, sym, ◌∙◌, refl, append_assoc, length-append, arith}
+use Rattle.std.proofs.Common.{◌≡◌, List, [], ◌∷◌, ◌++◌, length, nat_eq, false, Option, Some, None, ap, sym, ◌∙◌, refl, length-append, arith}
 use Rattle.std.proofs.lemmas.List.{append-nil}
 use Rattle.std.proofs.lemmas.Grind.{common_steps}
 use Rattle.box_tree.specs.declared.item.Item.{Item}
@@ -7,8 +7,8 @@ use Rattle.box_tree.specs.declared.item.Item.TheVariants as items
 use Rattle.jlist_builder.specs.declared.builder.HBuilder.{HBuilder}
 use Rattle.jlist_builder.specs.declared.character.Letter.{Letter}
 use Rattle.jlist_builder.specs.Entries.{Entry, Japanese, European, Other, Cut, Inhibit, is_bare}
-use Rattle.jlist_builder.specs.Pieces.{Word, Piece, Kanji, Glyph, Thing, CutHere, InhibitHere, joined, joint, letter_of, word_of, run, before_letter, word_before, with_letter}
-use Rattle.jlist_builder.specs.Gaps.{letter_items, last_letter, metric_list, before, kanji_item, own, spaced}
+use Rattle.jlist_builder.specs.Pieces.{Word, Piece, Kanji, Glyph, joined, joint, letter_of, word_of, run, before_letter, word_before, with_letter}
+use Rattle.jlist_builder.specs.Gaps.{letter_items, last_letter, metric_list, before, kanji_item, spaced}
 use Rattle.jlist_builder.specs.Stands.{StandsFor}
 
 pub lent : (b : HBuilder) (e : List Entry) → StandsFor b e → b.list.items ++ letter_items (last_letter (joined e)) ≡ metric_list e

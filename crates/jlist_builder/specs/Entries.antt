@@ -1,5 +1,5 @@
--- What comes into a horizontal list. A list of entries has the newest first, so what stands behind an entry in such a list is all
--- that came before it.
+-- What comes into a horizontal list. A list of entries has the newest first, so what stands
+-- behind an entry in such a list is all that came before it.
 use Rattle.std.specs.Prelude.{◌≡◌, ℕ, Bool, true, false, List, [], ◌∷◌, FitsSigned}
 use Rattle.std.specs.Int.{w32}
 use Rattle.ts_geometry.specs.declared.measure.Sp.{Sp}
@@ -15,8 +15,8 @@ use Rattle.tfm_load.specs.Metrics as tfm
 use Rattle.jfm_load.specs.Metrics as jfm
 use Rattle.jlist_builder.specs.declared.character.Kinsoku.{Kinsoku}
 
--- a Japanese character: its font with the metric, the number and the size in scaled points, its cell, its kind from 16 to 18, and the
--- penalties before and after it
+-- a Japanese character: its font with the metric, the number and the size in scaled points, its
+-- cell, its kind from 16 to 18, and the penalties before and after it
 pub record JapaneseCharacter : Type 0 where
   pub metric : jfm.Metric
   pub font : FontNo
@@ -25,7 +25,8 @@ pub record JapaneseCharacter : Type 0 where
   pub kind : ℕ
   pub kinsoku : Kinsoku
 
--- a European character: its font as above, its code, by how much it is moved across, and its penalties
+-- a European character: its font as above, its code, by how much it is moved across, and its
+-- penalties
 pub record EuropeanCharacter : Type 0 where
   pub metric : tfm.Metric
   pub font : FontNo
@@ -52,8 +53,8 @@ abbrev pub IsGivenKern : KernFrom → Type 0
 IsGivenKern kerns.Given = Unit {0}
 IsGivenKern kerns.Metric = ⊥
 
--- An other item is no character, no penalty that came with one, and neither glue nor a kern of a metric or of the space between
--- characters.
+-- An other item is no character, no penalty that came with one, and neither glue nor a kern of a
+-- metric or of the space between characters.
 abbrev pub IsOther : Item → Type 0
 IsOther (items.Glyph font code size shift first last) = ⊥
 IsOther (items.Kanji font cell size kind) = ⊥

@@ -1,5 +1,5 @@
--- The metric list: the characters and other items of the entries, and directly before each character its gap penalty and its metric
--- space or kern.
+-- The metric list: the characters and other items of the entries, and directly before each
+-- character its gap penalty and its metric space or kern.
 use Rattle.std.specs.Prelude.{ℕ, Bool, true, false, if◌then◌else◌, ◌||◌, List, [], ◌∷◌, ◌++◌, Option, Some, None, ℤ, pos, ◌+ℤ◌}
 use Rattle.std.specs.Ordering.{int_eq}
 use Rattle.box_tree.specs.declared.item.Item.{Item}
@@ -49,11 +49,12 @@ neighbour (InhibitHere ∷ past) = neighbour past
 abbrev pub unless_zero : ℤ → Option ℤ
 unless_zero z = if int_eq z (pos 0) then None else Some z
 
--- The penalty before a character: where it or its neighbour is Japanese, that after the neighbour and that before it together, unless
--- this is 0.
+-- The penalty before a character: where it or its neighbour is Japanese, that after the neighbour
+-- and that before it together, unless this is 0.
 abbrev pub gap_penalty : Option Side → Bool → ℤ → Option ℤ
 gap_penalty None is_japanese pre = None
-gap_penalty (Some a) is_japanese pre = if a.is_japanese || is_japanese then unless_zero (a.post +ℤ pre) else None
+gap_penalty (Some a) is_japanese pre =
+    if a.is_japanese || is_japanese then unless_zero (a.post +ℤ pre) else None
 
 abbrev pub penalty_items : Option ℤ → List Item
 penalty_items None = []
@@ -78,12 +79,14 @@ class_before (runs.European a) = 0
 
 -- the metric space before a Japanese character
 abbrev pub kanji_space : jfm.Metric → ℕ → Run → Bool → ℕ → Space
-kanji_space m z before inhibited class = if inhibited then spaces.Nothing else scaled_space (between_of m (class_before before) class) z
+kanji_space m z before inhibited class =
+    if inhibited then spaces.Nothing else scaled_space (between_of m (class_before before) class) z
 
 -- the metric space or kern before a European character
 abbrev pub letter_space : tfm.Metric → ℕ → Run → Bool → ℕ → Space
 letter_space m z runs.Start inhibited code = spaces.Nothing
-letter_space m z (runs.Japanese class after) inhibited code = if inhibited then spaces.Nothing else after
+letter_space m z (runs.Japanese class after) inhibited code =
+    if inhibited then spaces.Nothing else after
 letter_space m z (runs.European a) inhibited code = scaled_kern (pair_of m a.code code) z
 
 abbrev pub space_before_kanji : List Piece → JapaneseCharacter → Space
@@ -102,8 +105,12 @@ kanji_item k = items.Kanji k.font k.cell (measures_of k.metric (class_in k) k.z)
 
 -- what stands directly before a piece
 abbrev pub before : List Piece → Piece → List Item
-before past (Kanji k) = penalty_items (gap_penalty (neighbour past) true k.kinsoku.pre) ++ space_items (space_before_kanji past k)
-before past (Glyph w) = penalty_items (gap_penalty (neighbour past) false w.letter.kinsoku.pre) ++ space_items (space_before_word past w)
+before past (Kanji k) =
+    penalty_items (gap_penalty (neighbour past) true k.kinsoku.pre)
+    ++ space_items (space_before_kanji past k)
+before past (Glyph w) =
+    penalty_items (gap_penalty (neighbour past) false w.letter.kinsoku.pre)
+    ++ space_items (space_before_word past w)
 before past (Thing i) = []
 before past CutHere = []
 before past InhibitHere = []

@@ -1,5 +1,5 @@
--- The entries with their European characters joined to ligatures (TeX: The Program, sections 1034 to 1040). A list of pieces, too,
--- has the newest first.
+-- The entries with their European characters joined to ligatures (TeX: The Program, sections 1034
+-- to 1040). A list of pieces, too, has the newest first.
 use Rattle.std.specs.Prelude.{◌≡◌, ℕ, pos, List, [], ◌∷◌, Option, Some, None, unwrap_or}
 use Rattle.ts_geometry.specs.declared.measure.Measures.{Measures}
 use Rattle.ts_geometry.specs.Directions.{sp}
@@ -15,7 +15,8 @@ use Rattle.jlist_builder.specs.declared.character.Run.TheVariants as runs
 use Rattle.jlist_builder.specs.Entries.{JapaneseCharacter, EuropeanCharacter, Entry, Japanese, European, Other, Cut, Inhibit}
 use Rattle.jlist_builder.specs.Spaces.{scaled_space}
 
--- a European character or a ligature, with the metric and the size of the first letter of its source
+-- a European character or a ligature, with the metric and the size of the first letter of its
+-- source
 pub record Word : Type 0 where
   pub metric : tfm.Metric
   pub z : ℕ
@@ -63,7 +64,8 @@ class_in k = class_of k.metric k.cell
 abbrev pub run_after : JapaneseCharacter → Run
 run_after k = runs.Japanese (class_in k) (scaled_space (between_of k.metric (class_in k) 0) k.z)
 
--- What stands directly before in the run, over inhibits: with a Japanese character the space that its font has before others.
+-- What stands directly before in the run, over inhibits: with a Japanese character the space that
+-- its font has before others.
 abbrev pub run : List Piece → Run
 run [] = runs.Start
 run (Kanji k ∷ past) = run_after k
@@ -72,7 +74,8 @@ run (Thing i ∷ past) = runs.Start
 run (CutHere ∷ past) = runs.Start
 run (InhibitHere ∷ past) = run past
 
--- A ligature has the first source letter and the penalty before it of its left part, and all else of its right part.
+-- A ligature has the first source letter and the penalty before it of its left part, and all else
+-- of its right part.
 abbrev pub ligature : Letter → ℕ → Measures → Letter → Letter
 ligature a code size b = record b {
   code = code;
@@ -116,7 +119,8 @@ with_letter None w past = Glyph w ∷ past
 abbrev pub joined : List Entry → List Piece
 joined [] = []
 joined (Japanese k ∷ past) = Kanji k ∷ joined past
-joined (European a ∷ past) = with_letter (joint a.metric a.z (run (joined past)) (letter_of a)) (word_of a) (joined past)
+joined (European a ∷ past) =
+    with_letter (joint a.metric a.z (run (joined past)) (letter_of a)) (word_of a) (joined past)
 joined (Other i ∷ past) = Thing i ∷ joined past
 joined (Cut ∷ past) = CutHere ∷ joined past
 joined (Inhibit ∷ past) = InhibitHere ∷ joined past

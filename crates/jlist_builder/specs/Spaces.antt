@@ -1,5 +1,5 @@
 -- What metrics put between characters.
-use Rattle.std.specs.Prelude.{ℕ, ℤ, Bool, if◌then◌else◌, List, [], ◌∷◌}
+use Rattle.std.specs.Prelude.{ℕ, ℤ, List, [], ◌∷◌}
 use Rattle.ts_geometry.specs.declared.glue.Glue.{Glue}
 use Rattle.ts_geometry.specs.declared.glue.Order.TheVariants.{Normal}
 use Rattle.ts_geometry.specs.Directions.{sp}

@@ -10,8 +10,8 @@ use Rattle.jlist_builder.specs.Pieces.{joined}
 use Rattle.jlist_builder.specs.Gaps as gaps
 use Rattle.jlist_builder.specs.Gaps.{metric_list, letter_items}
 
--- A builder's list is the metric list of the entries but for a last letter that may still join, which it holds. Beside it the builder
--- knows what the next character looks at.
+-- A builder's list is the metric list of the entries but for a last letter that may still join,
+-- which it holds. Beside it the builder knows what the next character looks at.
 pub record StandsFor (b : HBuilder) (e : List Entry) : Type 0 where
   pub list : b.list.items ++ letter_items b.held ≡ metric_list e
   pub neighbour : b.neighbour ≡ gaps.neighbour (joined e)
@@ -41,7 +41,8 @@ is_lacking (Ok true) = false
 is_lacking (Ok false) = true
 is_lacking (Err fault) = false
 
--- a fact for each of a European character's answers: it was put, or the font lacks it, or the list refused it
+-- a fact for each of a European character's answers: it was put, or the font lacks it, or the
+-- list refused it
 abbrev pub MatchTaken : Result Bool ListFault → Type 0 → Type 0 → Type 0 → Type 0
 MatchTaken (Ok true) taken lacking refused = taken
 MatchTaken (Ok false) taken lacking refused = lacking

@@ -14,7 +14,7 @@ use crate::gaps::{
     gap_count, joined_letter, neighbour_over, penalty_between, side_of, space_before_kanji,
     space_before_letter,
 };
-use crate::puts::{glyph, is_too_many, put, put_held, put_penalty, put_space};
+use crate::puts::{glyph, is_too_many, put, put_gap, put_held};
 use crate::space::scaled_space;
 use box_tree::{FontNo, Item};
 use jfm_load::Japanese;
@@ -72,6 +72,14 @@ impl HBuilder {
         Ok(())
     }
 
+    // Remembers what stands directly before in the run, where no inhibit follows it yet.
+    fn go_on_after(&mut self, run: Run)
+        ensures { self.new ≡ record self.old { run = run; is_inhibited = false } }
+    {
+        self.run = run;
+        self.is_inhibited = false;
+    }
+
     /// Adds a Japanese character of a font, whose size is in scaled points, with its kind and the
     /// penalties before and after it. `ListFull` comes exactly where the list with its metric
     /// spaces and penalties would pass 200,000 items. Refused, the builder stands for the same
@@ -88,8 +96,8 @@ impl HBuilder {
         steps: &mut Steps<L>,
     ) -> Result<(), ListFault>
         requires { z < 2 ^ 23 }
-        ensures stands { OnOk result ((e : List Entry) → StandsFor self.old e → StandsFor self.new
-            (OfJapanese (japanese font.now number z cell kind kinsoku) ∷ e)) }
+        ensures stands { OnOk result ((e : List Entry) → StandsFor self.old e
+            → StandsFor self.new (OfJapanese (japanese font.now number z cell kind kinsoku) ∷ e)) }
         ensures full { (e : List Entry) → StandsFor self.old e → is_list_full result
             ≡ is_full (OfJapanese (japanese font.now number z cell kind kinsoku) ∷ e) }
         ensures refused { OnErr result
@@ -101,35 +109,37 @@ impl HBuilder {
         let space = space_before_kanji(font, z, self.run, self.is_inhibited, class);
         self.make_room(gap_count(penalty, space) + 1)?;
         put_held(&mut self.list, self.held, steps);
-        put_penalty(&mut self.list, penalty, steps);
-        put_space(&mut self.list, space, steps);
+        put_gap(&mut self.list, penalty, space, steps);
         let size = font.measures(class, z);
-        let item = Item::Kanji {
+        let kanji = Item::Kanji {
             font: number,
             cell,
             size,
             kind,
         };
-        put(&mut self.list, item, steps);
+        put(&mut self.list, kanji, steps);
         self.held = None;
         self.neighbour = Some(Side {
             is_japanese: true,
             post: kinsoku.post,
         });
-        self.run = Run::Japanese(class, scaled_space(font.between(class, 0), z));
-        self.is_inhibited = false;
+        let after = scaled_space(font.between(class, 0), z);
+        self.go_on_after(Run::Japanese(class, after));
         Ok(())
     }
 
     // Holds a letter back.
     fn hold(&mut self, letter: Letter)
-        ensures { self.new ≡ record self.old { held = Some letter;
-            neighbour = Some (right_of letter); run = runs.European letter; is_inhibited = false } }
+        ensures { self.new ≡ record self.old {
+          held = Some letter;
+          neighbour = Some (right_of letter);
+          run = runs.European letter;
+          is_inhibited = false;
+        } }
     {
         self.held = Some(letter);
         self.neighbour = Some(side_of(&letter));
-        self.run = Run::European(letter);
-        self.is_inhibited = false;
+        self.go_on_after(Run::European(letter));
     }
 
     // Adds a letter of the font.
@@ -160,8 +170,7 @@ impl HBuilder {
         let space = space_before_letter(font, z, self.run, self.is_inhibited, letter.code);
         self.make_room(gap_count(penalty, space) + 1)?;
         put_held(&mut self.list, self.held, steps);
-        put_penalty(&mut self.list, penalty, steps);
-        put_space(&mut self.list, space, steps);
+        put_gap(&mut self.list, penalty, space, steps);
         self.hold(letter);
         Ok(())
     }
@@ -184,7 +193,7 @@ impl HBuilder {
         requires { z < 2 ^ 23 }
         ensures stands { MatchTaken result
             ((e : List Entry) → StandsFor self.old e → StandsFor self.new
-                (OfEuropean (european font.now number z code shift kinsoku) ∷ e))
+            (OfEuropean (european font.now number z code shift kinsoku) ∷ e))
             (self.new ≡ self.old)
             ((e : List Entry) → StandsFor self.old e → StandsFor self.new e) }
         ensures lacking { is_lacking result ≡ not (has_character font.now code) }
@@ -214,8 +223,7 @@ impl HBuilder {
     pub fn cut(&mut self)
         ensures { (e : List Entry) → StandsFor self.old e → StandsFor self.new (Cut ∷ e) }
     {
-        self.run = Run::Start;
-        self.is_inhibited = false;
+        self.go_on_after(Run::Start);
     }
 
     /// Adds an inhibit: the next character has no metric space before it, where it comes at once.
@@ -246,8 +254,7 @@ impl HBuilder {
         self.neighbour = neighbour_over(&item, self.neighbour);
         put(&mut self.list, item, steps);
         self.held = None;
-        self.run = Run::Start;
-        self.is_inhibited = false;
+        self.go_on_after(Run::Start);
         Ok(())
     }
 

@@ -59,13 +59,7 @@ pub(crate) fn space_before_letter(
 {
     match run {
         Run::Start => Space::Nothing,
-        Run::Japanese(_, after) => {
-            if is_inhibited {
-                Space::Nothing
-            } else {
-                after
-            }
-        }
+        Run::Japanese(_, after) => { if is_inhibited { Space::Nothing } else { after } }
         Run::European(left) => scaled_kern(font.pair(left.code, code), z),
     }
 }

@@ -45,12 +45,8 @@ pub(crate) fn put_held<L: Ledger>(list: &mut NodeList, held: Option<Letter>, ste
     }
 }
 
-/// Puts the penalty of a gap.
-pub(crate) fn put_penalty<L: Ledger>(
-    list: &mut NodeList,
-    penalty: Option<i64>,
-    steps: &mut Steps<L>,
-)
+// Puts the penalty of a gap.
+fn put_penalty<L: Ledger>(list: &mut NodeList, penalty: Option<i64>, steps: &mut Steps<L>)
     requires few { length list.old.items < most_items }
     requires room { 1 ≤ list.old.spare }
     ensures items { list.new.items ≡ list.old.items ++ penalty_items penalty }
@@ -63,8 +59,8 @@ pub(crate) fn put_penalty<L: Ledger>(
     }
 }
 
-/// Puts the metric space of a gap.
-pub(crate) fn put_space<L: Ledger>(list: &mut NodeList, space: Space, steps: &mut Steps<L>)
+// Puts the metric space of a gap.
+fn put_space<L: Ledger>(list: &mut NodeList, space: Space, steps: &mut Steps<L>)
     requires few { length list.old.items < most_items }
     requires room { 1 ≤ list.old.spare }
     ensures items { list.new.items ≡ list.old.items ++ space_items space }
@@ -83,6 +79,27 @@ pub(crate) fn put_space<L: Ledger>(list: &mut NodeList, space: Space, steps: &mu
             put(list, Item::Kern { width, from }, steps);
         }
     }
+}
+
+/// Puts what stands directly before a character: the penalty and then the space.
+pub(crate) fn put_gap<L: Ledger>(
+    list: &mut NodeList,
+    penalty: Option<i64>,
+    space: Space,
+    steps: &mut Steps<L>,
+)
+    requires few { length list.old.items
+        + length (penalty_items penalty ++ space_items space) < most_items }
+    requires room { 2 ≤ list.old.spare }
+    ensures items { list.new.items
+        ≡ (list.old.items ++ penalty_items penalty) ++ space_items space }
+    ensures len { length list.new.items
+        ≡ length list.old.items + length (penalty_items penalty ++ space_items space) }
+    ensures room { list.old.spare ≤ list.new.spare + 2 }
+    ensures counted { steps.new ≤ steps.old + 2 }
+{
+    put_penalty(list, penalty, steps);
+    put_space(list, space, steps);
 }
 
 /// Returns a letter as an item.

@@ -1,5 +1,4 @@
-use Rattle.std.proofs.Common.{rules, sym, ap, ◌∙◌, ◌≡◌, None, refl}
-use Rattle.std.proofs.lemmas.Grind.{common_steps}
+use Rattle.std.proofs.Common.{rules, sym, ◌≡◌, None}
 use Rattle.jlist_builder.proofs.Joining.{letter_holds, joins_full, letter_full, letter_stands}
 use Rattle.jlist_builder.specs.Entries.{AreWords}
 use Rattle.jlist_builder.specs.Pieces.{joint}

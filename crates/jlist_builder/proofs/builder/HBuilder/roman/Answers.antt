@@ -1,5 +1,5 @@
-use Rattle.std.proofs.Common.{rules, sym, ap, ◌∙◌, ◌≡◌, ◌&&◌, true, Some, refl}
-use Rattle.tfm_load.specs.Metrics.{has_character, measures_of}
+use Rattle.std.proofs.Common.{rules, sym, ◌≡◌, Some}
+use Rattle.tfm_load.specs.Metrics.{measures_of}
 use Rattle.jlist_builder.proofs.Joining.{has_measures, letter_of_font, and_full}
 use Rattle.jlist_builder.specs.Entries.{european}
 use Rattle.jlist_builder.proofs.builder.HBuilder.roman.Goals as goal
