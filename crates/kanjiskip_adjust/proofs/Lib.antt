@@ -1,0 +1,6 @@
+pub mod Sorts
+pub mod Walking
+pub mod Widows
+pub mod Passing
+pub mod Keeping
+pub mod Sums

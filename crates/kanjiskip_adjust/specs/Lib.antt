@@ -1,0 +1,4 @@
+pub mod EndCodes
+pub mod Finished
+pub mod Walks
+pub mod Nodes
