@@ -1,6 +1,6 @@
 -- One step of the walk over linked nodes, and its end.
 use Prim.Native.Nat.{zero, suc}
-use Rattle.std.proofs.Common.{◌≡◌, ℕ, ◌+◌, ◌-◌, ◌<◌, ◌≤◌, List, [], ◌∷◌, ◌++◌, length, take, drop, get_or, slice_get, Bool, true, false, if◌then◌else◌, Option, Some, None, ℤ, ◌+ℤ◌, ap, sym, ◌∙◌, refl, append_assoc, arith, length-append, add-one, length-take}
+use Rattle.std.proofs.Common.{◌≡◌, ℕ, ◌+◌, ◌-◌, ◌≤◌, List, [], ◌∷◌, ◌++◌, length, take, drop, get_or, slice_get, Bool, true, false, if◌then◌else◌, Option, Some, None, ℤ, ◌+ℤ◌, ap, sym, ◌∙◌, refl, append_assoc, arith, length-append, length-take}
 use Rattle.std.specs.Prelude.{IfSome, ◌^◌}
 use Rattle.std.specs.List.{insert}
 use Rattle.std.proofs.Math.Seq.{take-append_seam, drop-append_seam, drop-cons}

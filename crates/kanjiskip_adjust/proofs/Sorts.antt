@@ -1,5 +1,5 @@
 -- What joining keeps of entries.
-use Rattle.std.proofs.Common.{◌≡◌, ℕ, List, [], ◌∷◌, Option, Some, None, ap, sym, ◌∙◌, refl}
+use Rattle.std.proofs.Common.{◌≡◌, ℕ, List, [], ◌∷◌, refl}
 use Rattle.tfm_load.specs.Metrics as tfm
 use Rattle.tfm_load.specs.Metrics.{pair_of}
 use Rattle.tfm_load.specs.declared.programs.Step.{Step}
@@ -8,7 +8,7 @@ use Rattle.jlist_builder.specs.declared.character.Letter.{Letter}
 use Rattle.jlist_builder.specs.declared.character.Run.{Run}
 use Rattle.jlist_builder.specs.declared.character.Run.TheVariants as runs
 use Rattle.jlist_builder.specs.Entries.{Entry, Japanese, European, Other, Cut, Inhibit, AreWords, IsOther, AreEntries}
-use Rattle.jlist_builder.specs.Pieces.{Word, Piece, Kanji, Glyph, Thing, CutHere, InhibitHere, run, joint, joint_by, letter_of, word_of, word_before, before_letter, with_letter, joined}
+use Rattle.jlist_builder.specs.Pieces.{Word, Piece, Kanji, Glyph, Thing, CutHere, InhibitHere, run, joint, joint_by, word_of, before_letter, with_letter, joined}
 
 -- what pieces may be
 abbrev pub IsPiece : Piece → Type 0

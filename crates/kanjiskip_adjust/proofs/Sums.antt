@@ -1,6 +1,6 @@
 -- No penalty of a gap is so great that the widow penalty passes a word with it.
 use Prim.Native.Nat.{zero, suc}
-use Rattle.std.proofs.Common.{◌≡◌, ℕ, ◌^◌, List, [], ◌∷◌, ◌++◌, length, slice_get, Bool, true, false, ◌||◌, if◌then◌else◌, Option, Some, None, ℤ, pos, ◌+ℤ◌, FitsSigned, w32, w64, ap, sym, ◌∙◌, refl, arith}
+use Rattle.std.proofs.Common.{◌≡◌, ℕ, ◌^◌, List, [], ◌∷◌, ◌++◌, slice_get, Bool, true, false, ◌||◌, if◌then◌else◌, Option, Some, None, ℤ, pos, ◌+ℤ◌, FitsSigned, w32, w64, refl, arith}
 use Rattle.std.specs.Prelude.{IfSome}
 use Rattle.std.specs.Ordering.{int_eq}
 use Rattle.std.specs.Int.{saturate_signed}
@@ -17,7 +17,7 @@ use Rattle.jlist_builder.specs.Pieces.{Piece, Kanji, Glyph, Thing, CutHere, Inhi
 use Rattle.jlist_builder.specs.Gaps.{neighbour, over, gap_penalty, unless_zero, penalty_items, space_before_kanji, space_before_word, own}
 use Rattle.kanjiskip_adjust.specs.EndCodes.{Codes}
 use Rattle.kanjiskip_adjust.specs.Finished.{facing, end_skip, skip_items, space_or, finally_before, finished}
-use Rattle.kanjiskip_adjust.specs.Walks.{gap_value, IsSmall}
+use Rattle.kanjiskip_adjust.specs.Walks.{IsSmall}
 use Rattle.kanjiskip_adjust.specs.declared.look.End.TheVariants as ends
 use Rattle.kanjiskip_adjust.proofs.Sorts.{ArePieces, joined_pieces}
 use Rattle.kanjiskip_adjust.proofs.Walking.{plain, no_skip}

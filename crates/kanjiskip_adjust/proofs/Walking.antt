@@ -1,5 +1,5 @@
 -- The walk comes past the items of any pieces.
-use Rattle.std.proofs.Common.{◌≡◌, ℕ, List, [], ◌∷◌, ◌++◌, length, Bool, true, false, ◌&&◌, if◌then◌else◌, Option, Some, None, ℤ, ap, sym, ◌∙◌, refl, append_assoc}
+use Rattle.std.proofs.Common.{◌≡◌, ℕ, List, [], ◌∷◌, ◌++◌, length, Bool, true, false, if◌then◌else◌, Option, Some, None, ℤ, ap, ◌∙◌, refl, append_assoc}
 use Rattle.std.proofs.lemmas.List.{append-nil}
 use Rattle.box_tree.specs.declared.item.Item.{Item}
 use Rattle.box_tree.specs.declared.item.Item.TheVariants as items
@@ -14,8 +14,8 @@ use Rattle.jlist_builder.specs.Pieces.{Piece, Kanji, Glyph, Thing, CutHere, Inhi
 use Rattle.jlist_builder.specs.Spaces.{space_items}
 use Rattle.jlist_builder.specs.Gaps.{neighbour, gap_penalty, penalty_items, space_before_kanji, space_before_word, before, own, spaced, over, glyph, kanji_item}
 use Rattle.kanjiskip_adjust.specs.EndCodes.{Codes}
-use Rattle.kanjiskip_adjust.specs.Finished.{facing, end_over, end_skip, skip_items, space_or, finally_before, may_follow_item, is_japanese, is_text}
-use Rattle.kanjiskip_adjust.specs.Walks.{skip_before, walk_after, look_of, walked, start}
+use Rattle.kanjiskip_adjust.specs.Finished.{facing, end_over, end_skip, space_or, finally_before, may_follow_item, is_japanese, is_text}
+use Rattle.kanjiskip_adjust.specs.Walks.{walked, start}
 use Rattle.kanjiskip_adjust.specs.declared.look.End.{End}
 use Rattle.kanjiskip_adjust.specs.declared.look.End.TheVariants as ends
 use Rattle.kanjiskip_adjust.specs.declared.walk.Walk.{Walk}

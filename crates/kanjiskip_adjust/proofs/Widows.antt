@@ -1,6 +1,6 @@
 -- The widow penalty is put where the walk remembers, so that the walk over a metric list gives the finished list.
 use Prim.Native.Nat.{zero, suc}
-use Rattle.std.proofs.Common.{◌≡◌, ℕ, ◌<◌, List, [], ◌∷◌, ◌++◌, length, Bool, true, false, not, ◌&&◌, if◌then◌else◌, Option, Some, None, ℤ, ◌+ℤ◌, ap, sym, ◌∙◌, refl, append_assoc, arith, length-append}
+use Rattle.std.proofs.Common.{◌≡◌, ℕ, ◌<◌, List, [], ◌∷◌, ◌++◌, length, Bool, true, false, not, ◌&&◌, if◌then◌else◌, Option, Some, None, ℤ, ap, sym, ◌∙◌, refl, append_assoc, arith, length-append}
 use Rattle.std.proofs.lemmas.List.{append-nil}
 use Rattle.ts_geometry.specs.declared.glue.Glue.{Glue}
 use Rattle.box_tree.specs.declared.item.Item.{Item}
@@ -11,7 +11,7 @@ use Rattle.jlist_builder.specs.Entries.{JapaneseCharacter, Entry, AreEntries}
 use Rattle.jlist_builder.specs.Pieces.{Piece, Kanji, Glyph, Thing, CutHere, InhibitHere, joined}
 use Rattle.jlist_builder.specs.Gaps.{neighbour, gap_penalty, penalty_items, space_before_kanji, own, kanji_item, metric_list}
 use Rattle.kanjiskip_adjust.specs.EndCodes.{Codes}
-use Rattle.kanjiskip_adjust.specs.Finished.{facing, end_skip, space_or, with_widow, finally_before, may_follow_item, may_follow, is_japanese, is_text, widow_at, finished, finished_list, widow_of}
+use Rattle.kanjiskip_adjust.specs.Finished.{facing, end_skip, space_or, with_widow, finally_before, may_follow_item, may_follow, is_japanese, is_text, widow_at, finished}
 use Rattle.kanjiskip_adjust.specs.Walks.{with_penalty, added, concluded, walked, start}
 use Rattle.kanjiskip_adjust.specs.declared.look.End.TheVariants as ends
 use Rattle.kanjiskip_adjust.proofs.Sorts.{joined_pieces}

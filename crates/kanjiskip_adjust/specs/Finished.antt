@@ -136,7 +136,8 @@ is_japanese (Some a) = a.is_japanese
 
 -- the widow penalty before a piece after which only what may follow stands
 abbrev pub widow_at : Option ℤ → List Piece → Piece → Option ℤ
-widow_at widow past (Kanji k) = if is_text k.kind && is_japanese (neighbour past) then widow else None
+widow_at widow past (Kanji k) =
+    if is_text k.kind && is_japanese (neighbour past) then widow else None
 widow_at widow past (Glyph w) = None
 widow_at widow past (Thing i) = None
 widow_at widow past CutHere = None
@@ -151,7 +152,8 @@ widow_of codes para = if para && not (int_eq codes.widow (pos 0)) then Some code
 abbrev pub finally_before : Codes → Option ℤ → List Piece → Piece → List Item
 finally_before codes widow past (Kanji k) =
     penalty_items (with_widow widow (gap_penalty (neighbour past) true k.kinsoku.pre))
-    ++ space_or (space_before_kanji past k) (end_skip codes (facing past) (Some (ends.Japanese k.cell)))
+    ++ space_or (space_before_kanji past k)
+    (end_skip codes (facing past) (Some (ends.Japanese k.cell)))
 finally_before codes widow past (Glyph w) =
     penalty_items (gap_penalty (neighbour past) false w.letter.kinsoku.pre)
     ++ space_or (space_before_word past w)

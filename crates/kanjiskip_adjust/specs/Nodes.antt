@@ -25,5 +25,6 @@ pub record AreKept (numbers : List NodeNo) (w : Walk) (m : Marks) (place : ℕ) 
   pub gap : 1 ≤ w.gap → slice_get numbers (w.gap - 1) ≡ Some m.gap
   pub within : w.gap ≤ place
   pub after : w.is_after_japanese ≡ true → 1 ≤ w.gap
-  pub widow : IfSome w.widow (λ n. (1 ≤ n) × ((n < place) × (slice_get numbers (n - 1) ≡ Some m.widow)))
+  pub widow : IfSome w.widow (λ n.
+      (1 ≤ n) × ((n < place) × (slice_get numbers (n - 1) ≡ Some m.widow)))
   pub left : place ≡ 0 → w.left ≡ None

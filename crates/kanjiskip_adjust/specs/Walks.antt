@@ -1,6 +1,6 @@
 -- The walk over the items of a metric list. It is for this crate's own functions alone.
 use Prim.Native.Nat.{zero, suc}
-use Rattle.std.specs.Prelude.{ℕ, ◌^◌, IfSome, Bool, true, false, if◌then◌else◌, List, [], ◌∷◌, ◌++◌, length, Option, Some, None, ℤ, ◌+ℤ◌}
+use Rattle.std.specs.Prelude.{ℕ, ◌^◌, IfSome, true, false, if◌then◌else◌, List, [], ◌∷◌, ◌++◌, length, Option, Some, None, ℤ, ◌+ℤ◌}
 use Rattle.ts_geometry.specs.declared.glue.Glue.{Glue}
 use Rattle.ts_geometry.specs.Numbers.{IsWithin}
 use Rattle.box_tree.specs.declared.item.GlueFrom.{GlueFrom}
@@ -11,7 +11,6 @@ use Rattle.box_tree.specs.declared.item.Item.{Item}
 use Rattle.box_tree.specs.declared.item.Item.TheVariants as items
 use Rattle.kanjiskip_adjust.specs.EndCodes.{Codes}
 use Rattle.kanjiskip_adjust.specs.Finished.{end_skip, skip_items, is_text}
-use Rattle.kanjiskip_adjust.specs.declared.look.End.{End}
 use Rattle.kanjiskip_adjust.specs.declared.look.End.TheVariants as ends
 use Rattle.kanjiskip_adjust.specs.declared.look.Look.{Look}
 use Rattle.kanjiskip_adjust.specs.declared.look.Look.TheVariants as looks

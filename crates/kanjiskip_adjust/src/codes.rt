@@ -36,8 +36,8 @@ pub trait EndCodes {
         ensures value { result ≡ (codes self.now).xsp code }
         ensures most { result ≤ 3 };
 
-    /// Returns which gaps a Japanese character forbids: 0 both, 1 the one before it, 2 the one after
-    /// it, 3 none.
+    /// Returns which gaps a Japanese character forbids: 0 both, 1 the one before it, 2 the one
+    /// after it, 3 none.
     fn inhibit_xsp(&self, cell: Cell) -> u8
         ensures value { result ≡ (codes self.now).inhibit_xsp cell }
         ensures most { result ≤ 3 };

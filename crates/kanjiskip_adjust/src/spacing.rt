@@ -109,8 +109,8 @@ fn add_penalty<L: Ledger>(
 }
 
 /// Turns the metric list of any entries into their finished list, with the codes as they are now:
-/// skips in the gaps without a metric space, and in a paragraph (`para`) the widow penalty. It needs
-/// a spare of two a node, takes no memory, can't fail, and takes at most 6 steps a node.
+/// skips in the gaps without a metric space, and in a paragraph (`para`) the widow penalty. It
+/// needs a spare of two a node, takes no memory, can't fail, and takes at most 6 steps a node.
 pub fn adjust<E: EndCodes, L: Ledger>(
     list: &mut NodeList,
     codes: &E,

@@ -1,7 +1,5 @@
-use Rattle.std.proofs.Common.{rules, ◌≡◌, ◌+◌, ◌-◌, ◌≤◌, length, slice_get, Some, None, sym, ◌∙◌, refl, arith}
-use Rattle.std.specs.List.{insert}
+use Rattle.std.proofs.Common.{◌≡◌, ◌+◌, ◌-◌, length, sym, arith}
 use Rattle.std.proofs.lemmas.Option.{slice_get_within}
-use Rattle.kanjiskip_adjust.specs.Walks.{look_of, skip_before, walk_after}
 use Rattle.kanjiskip_adjust.proofs.Passing.{linked_plain, linked_skip, linked_here, linked_next, linked_kept, has_before}
 use Rattle.kanjiskip_adjust.proofs.Keeping.{length-inserted}
 use Rattle.kanjiskip_adjust.proofs.spacing.pass.Goals as goal
