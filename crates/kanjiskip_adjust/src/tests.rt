@@ -3,6 +3,7 @@
 ghost use Rattle.std.specs.Prelude.{◌≡◌, ◌<◌, min, IfSome};
 ghost use Rattle.jlist_builder.specs.Entries.{IsOther};
 
+use crate::plain::plain;
 use crate::{EndCodes, adjust};
 use box_tree::{FontNo, GlueFrom, Item, KernFrom};
 use jfm_load::Japanese;
@@ -30,14 +31,14 @@ struct Fonts {
 
 // Codes at a list's end, the same for all characters of a kind.
 #[derive(Clone, Copy, Drop)]
-struct Sample {
-    kanjiskip: Glue,
-    xkanjiskip: Glue,
-    auto: bool,
-    autox: bool,
-    widow: i32,
-    xsp: u8,
-    inhibit_xsp: u8,
+pub(crate) struct Sample {
+    pub(crate) kanjiskip: Glue,
+    pub(crate) xkanjiskip: Glue,
+    pub(crate) auto: bool,
+    pub(crate) autox: bool,
+    pub(crate) widow: i32,
+    pub(crate) xsp: u8,
+    pub(crate) inhibit_xsp: u8,
 }
 
 impl EndCodes for Sample {
@@ -105,9 +106,9 @@ const CODES: Sample = Sample {
 // A call of the builder: a Japanese character has its row and cell, its kind, and the penalties
 // before and after it.
 #[derive(Clone, Copy)]
-enum Call {
+pub(crate) enum Call {
     Kanji(u8, u8, u8, i32, i32),
-    Letter(u8),
+    Letter(u8, i32, i32),
     Kern(i64),
     Penalty(i64),
     Rule,
@@ -117,7 +118,7 @@ enum Call {
 
 // What a test tells one item from another by.
 #[derive(Clone, Copy, Debug, PartialEq)]
-enum Look {
+pub(crate) enum Look {
     Kanji(u16),
     Letter(u8),
     Space,
@@ -136,7 +137,11 @@ const CLOSE: Call = Call::Kanji(1, 55, 18, 0, 0);
 
 const COMMA: Call = Call::Kanji(1, 2, 18, 0, 0);
 
-const X: Call = Call::Letter(b'x');
+const F: Call = Call::Letter(b'f', 0, 0);
+
+const I: Call = Call::Letter(b'i', 0, 0);
+
+const X: Call = Call::Letter(b'x', 0, 0);
 
 // Hiragana A, the brackets and the comma.
 const JA: Look = Look::Kanji(0x2422);
@@ -240,8 +245,8 @@ fn add<L: Ledger>(
             let kinsoku = Kinsoku { pre, post };
             builder.kanji(&fonts.japanese, FontNo(0), SIZE, cell, kind, kinsoku, steps)
         }
-        Call::Letter(code) => {
-            let kinsoku = Kinsoku { pre: 0, post: 0 };
+        Call::Letter(code, pre, post) => {
+            let kinsoku = Kinsoku { pre, post };
             builder.roman(&fonts.roman, FontNo(1), SIZE, code, Sp(0), kinsoku, steps)?;
             Ok(())
         }
@@ -347,7 +352,7 @@ fn skips_stand_where_no_metric_space_does(rt: HostRuntime) -> Result<(), Fail> {
         ),
         // a ligature faces both sides by its own letters
         (
-            &[A, Call::Letter(b'f'), Call::Letter(b'i'), A],
+            &[A, F, I, A],
             false,
             CODES,
             &[JA, XK, Look::Letter(12), XK, JA],
@@ -462,5 +467,94 @@ fn letters_allow_gaps_and_japanese_characters_forbid_them(rt: HostRuntime) -> Re
         gaps::<Brand>(rt.alloc(), Blank::new(1))?.as_slice(),
         wanted.as_slice()
     );
+    Ok(())
+}
+
+// The next draw of a generator, below 65,536.
+fn draw(state: &mut u32) -> u32 {
+    *state = state.wrapping_mul(1_664_525).wrapping_add(1_013_904_223);
+    *state / 65_536
+}
+
+fn random_penalty(state: &mut u32) -> i32 {
+    match draw(state) % 4 {
+        0 => 50,
+        1 => -50,
+        _ => 0,
+    }
+}
+
+fn random_call(state: &mut u32) -> Call {
+    let pre = random_penalty(state);
+    let post = random_penalty(state);
+    match draw(state) % 16 {
+        0 | 1 | 2 => Call::Kanji(4, 2, 17, pre, post),
+        3 => Call::Kanji(1, 54, 18, pre, post),
+        4 => Call::Kanji(1, 55, 18, pre, post),
+        5 => Call::Kanji(1, 2, 18, pre, post),
+        6 => Call::Letter(b'f', pre, post),
+        7 => Call::Letter(b'i', pre, post),
+        8 => Call::Letter(b'a', pre, post),
+        9 => Call::Letter(b'v', pre, post),
+        10 => Call::Kern(3),
+        11 => Call::Penalty(4),
+        12 => Call::Rule,
+        13 => Call::Cut,
+        _ => Call::Inhibit,
+    }
+}
+
+fn random_codes(state: &mut u32) -> Sample {
+    Sample {
+        auto: draw(state) % 4 != 0,
+        autox: draw(state) % 4 != 0,
+        widow: random_penalty(state),
+        xsp: (draw(state) % 4) as u8,
+        inhibit_xsp: (draw(state) % 4) as u8,
+        ..CODES
+    }
+}
+
+// How many of 500 random lists, each in a paragraph or not, differ from what is worked out for each
+// gap anew; and how many items the others have in all.
+fn compared<L: Ledger>(alloc: Global, blank: Blank) -> Result<(usize, usize), Fail>
+    requires name { blank.name ≡ L.name }
+    requires parts { blank.parts ≡ L.parts }
+    requires some { 0 < blank.parts }
+{
+    let mut steps = Steps::<L>::new(blank);
+    let fonts = sample_fonts(alloc)?;
+    let mut state = 1;
+    let mut wrong: usize = 0;
+    let mut same: usize = 0;
+    for _ in 0..500 {
+        let calls = random_calls(alloc, &mut state)?;
+        let codes = random_codes(&mut state);
+        let para = draw(&mut state) % 2 == 0;
+        let list = finished(alloc, &fonts, calls.as_slice(), para, &codes, &mut steps)?;
+        let wanted = plain(alloc, calls.as_slice(), para, &codes)?;
+        if list.as_slice() == wanted.as_slice() {
+            same = same.saturating_add(list.len());
+        } else {
+            wrong = wrong.saturating_add(1);
+        }
+    }
+    Ok((wrong, same))
+}
+
+// Up to 12 random calls.
+fn random_calls(alloc: Global, state: &mut u32) -> Result<Vec<Call>, Fail> {
+    let mut calls = Vec::new(alloc);
+    for _ in 0..draw(state) % 13 {
+        calls.push(random_call(state))?;
+    }
+    Ok(calls)
+}
+
+#[test]
+fn random_lists_are_as_each_gap_is_worked_out_anew(rt: HostRuntime) -> Result<(), Fail> {
+    let (wrong, same) = compared::<Brand>(rt.alloc(), Blank::new(1))?;
+    assert_eq!(rt; wrong, 0);
+    assert!(rt; 3_000 < same);
     Ok(())
 }
