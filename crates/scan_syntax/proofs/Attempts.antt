@@ -1,18 +1,19 @@
 -- Steps of keywords.
 use Rattle.std.proofs.Common.{◌≡◌, ℕ, ◌+◌, ◌<◌, Bool, true, false, List, [], ◌∷◌, ◌++◌, length, drop, refl, sym, ap, ◌∙◌, arith, length-append, slice_index, Result, Ok, Err}
-use Rattle.scan_syntax.specs.declared.fault.ScanFault.{ScanFault}
-use Rattle.scan_syntax.specs.declared.fault.ScanFault.TheVariants.{Kind, NoMemory}
+use Rattle.scan_numbers.specs.declared.fault.ScanFault.{ScanFault}
+use Rattle.scan_numbers.specs.declared.fault.ScanFault.TheVariants.{Kind, NoMemory}
 use Rattle.scan_syntax.specs.declared.keyword.Attempt.{Attempt}
 use Rattle.scan_syntax.specs.declared.keyword.Attempt.TheVariants.{On, There, Not}
 use Rattle.std.specs.Prelude.{◌==◌}
 use Rattle.std.proofs.lemmas.Bool.Decides.{nat_tests}
 use Rattle.std.proofs.lemmas.List.{drop_more, drop_all}
-use Rattle.scan_syntax.specs.Contexts.{Context}
+use Rattle.scan_numbers.specs.Contexts.{Context}
 use Rattle.tok_lists.specs.declared.token.Token.{Token}
 use Rattle.scan_syntax.specs.declared.keyword.Keyword.{Keyword}
-use Rattle.scan_syntax.specs.Tokens.{FedToken, fed, put_back, is_space, letter}
-use Rattle.scan_syntax.specs.Answers.{Answer, Got, Needs, Bad, Expanded, ◌>>=◌}
-use Rattle.scan_syntax.specs.Keywords.{letters, keyword, is_letter, or_left, letters_of}
+use Rattle.scan_numbers.specs.Tokens.{FedToken, fed, put_back, is_space, letter}
+use Rattle.scan_numbers.specs.Answers.{Answer, Got, Needs, Bad, Expanded, ◌>>=◌}
+use Rattle.scan_numbers.specs.Keywords.{letters, keyword, is_letter, or_left}
+use Rattle.scan_syntax.specs.Words.{letters_of}
 use Rattle.scan_syntax.specs.Attempts.{Attempts, or_back, within_left, word_left, keyword_left}
 
 pub fresh : (k : Keyword) (list : List FedToken) → k.matched.items ≡ [] → keyword_left k list ≡ keyword (letters_of k.word) list

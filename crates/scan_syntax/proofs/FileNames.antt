@@ -1,20 +1,20 @@
 -- Steps of names of files.
-use Rattle.std.proofs.Common.{◌≡◌, ℕ, ◌<◌, Bool, true, false, List, [], ◌∷◌, ◌++◌, length, Option, Some, None, Result, refl, sym, ◌∙◌, arith, append-nil, append_assoc}
+use Rattle.std.proofs.Common.{◌≡◌, ℕ, ◌<◌, Bool, true, false, List, [], ◌∷◌, ◌++◌, length, Some, None, Result, refl, arith, append-nil, append_assoc}
 use Rattle.std.specs.Prelude.{◌==◌}
 use Rattle.std.proofs.lemmas.Bool.Decides.{nat_tests}
 use Rattle.ts_outside.specs.Names.{is_file_name}
 use Rattle.tok_lists.specs.declared.token.Token.{Token}
-use Rattle.scan_syntax.specs.declared.fault.ScanFault.{ScanFault}
-use Rattle.scan_syntax.specs.declared.fault.ScanKind.TheVariants.{NoName}
-use Rattle.scan_syntax.specs.declared.step.Step.{Step}
+use Rattle.scan_numbers.specs.declared.fault.ScanFault.{ScanFault}
+use Rattle.scan_numbers.specs.declared.fault.ScanKind.TheVariants.{NoName}
+use Rattle.scan_numbers.specs.declared.step.Step.{Step}
 use Rattle.scan_syntax.specs.declared.naming.Naming.{Naming}
-use Rattle.scan_syntax.specs.Contexts.{Context}
-use Rattle.scan_syntax.specs.Tokens.{FedToken, fed, is_space}
-use Rattle.scan_syntax.specs.Answers.{Answer, Got, Needs, Bad, Expanded, ◌>>=◌}
+use Rattle.scan_numbers.specs.Contexts.{Context}
+use Rattle.scan_numbers.specs.Tokens.{FedToken, fed, is_space}
+use Rattle.scan_numbers.specs.Answers.{Answer, Got, Needs, Bad, Expanded, ◌>>=◌}
 use Rattle.scan_syntax.specs.FileNames.{name_byte, ends_name, name_bytes, file_named, file_name}
-use Rattle.scan_syntax.specs.Machines.{Follows, whole}
+use Rattle.scan_numbers.specs.Machines.{Follows, whole}
 use Rattle.scan_syntax.specs.Naming.{naming_left, begun_left, named_left, name_after, same_name}
-use Rattle.scan_syntax.proofs.Follows.{same_follows}
+use Rattle.scan_numbers.proofs.Follows.{same_follows}
 
 pub fresh : (n : Naming) (list : List FedToken) → n.bytes.items ≡ [] → naming_left n list ≡ file_name list
 unfolding naming_left

@@ -1,29 +1,27 @@
 -- Steps of internal quantities.
-use Rattle.std.proofs.Common.{◌≡◌, ℤ, Bool, true, false, List, [], ◌∷◌, Result, Ok, Err, refl, sym, ◌∙◌}
+use Rattle.std.proofs.Common.{◌≡◌, ℤ, Bool, true, false, List, ◌∷◌, Ok, Err, refl, ◌∙◌}
 use Rattle.tok_lists.specs.declared.token.Token.{Token}
 use Rattle.env_groups.specs.declared.key.ToksKey.{ToksKey}
-use Rattle.scan_syntax.specs.declared.fault.ScanFault.{ScanFault}
-use Rattle.scan_syntax.specs.declared.fault.ScanFault.TheVariants.{Kind, NoMemory}
-use Rattle.scan_syntax.specs.declared.fault.ScanKind.{ScanKind}
-use Rattle.scan_syntax.specs.declared.fault.ScanKind.TheVariants.{NoNumber}
-use Rattle.scan_syntax.specs.declared.quantity.Quantity.{Quantity}
-use Rattle.scan_syntax.specs.declared.quantity.Register.{Register}
-use Rattle.scan_syntax.specs.declared.integer.Integer.{Integer}
+use Rattle.scan_numbers.specs.declared.fault.ScanKind.{ScanKind}
+use Rattle.scan_numbers.specs.declared.fault.ScanKind.TheVariants.{NoNumber}
+use Rattle.scan_numbers.specs.declared.quantity.Quantity.{Quantity}
+use Rattle.scan_numbers.specs.declared.quantity.Register.{Register}
+use Rattle.scan_numbers.specs.declared.integer.Integer.{Integer}
 use Rattle.scan_syntax.specs.declared.internal.Internal.{Internal}
 use Rattle.scan_syntax.specs.declared.internal.Internal.TheVariants as internals
 use Rattle.scan_syntax.specs.declared.internal.Listed.TheVariants as listeds
-use Rattle.scan_syntax.specs.declared.start.Start.{Start}
-use Rattle.scan_syntax.specs.declared.start.Start.TheVariants as starts
+use Rattle.scan_numbers.specs.declared.start.Start.{Start}
+use Rattle.scan_numbers.specs.declared.start.Start.TheVariants as starts
 use Rattle.scan_syntax.specs.declared.want.Value.{Value}
-use Rattle.scan_syntax.specs.Contexts.{Context}
-use Rattle.scan_syntax.specs.Quantities.{reading}
-use Rattle.scan_syntax.specs.Tokens.{FedToken, fed, start}
-use Rattle.scan_syntax.specs.Answers.{Answer, Got, Bad, ◌>>=◌}
-use Rattle.scan_syntax.specs.Integers.{integer, register, given}
-use Rattle.scan_syntax.specs.Machines.{FormIs, Follows, value_of, whole, left_of, integer_left}
-use Rattle.scan_syntax.specs.Internals.{internal, internal_from, quantity_value, toks_held, toks_reading, toks_register, toks_start}
+use Rattle.scan_numbers.specs.Contexts.{Context}
+use Rattle.scan_numbers.specs.Quantities.{reading}
+use Rattle.scan_numbers.specs.Tokens.{FedToken, fed, start}
+use Rattle.scan_numbers.specs.Answers.{Got, Bad}
+use Rattle.scan_numbers.specs.Integers.{integer}
+use Rattle.scan_numbers.specs.Machines.{FormIs, whole, left_of, integer_left}
+use Rattle.scan_syntax.specs.Internals.{internal, internal_from, quantity_value, toks_held, toks_reading, toks_start}
 use Rattle.scan_syntax.specs.Internalizing.{internal_left, begins_none}
-use Rattle.scan_syntax.proofs.Integers.{read_ok, read_err}
+use Rattle.scan_numbers.proofs.Follows.{read_ok, read_err}
 
 -- ---- the form of the next token
 

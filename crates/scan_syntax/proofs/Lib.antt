@@ -1,11 +1,6 @@
 pub mod Attempts
-pub mod Constants
-pub mod Dimensions
 pub mod FileNames
-pub mod Follows
 pub mod Internals
 pub mod MoreStates
 pub mod Stretches
-pub mod Integers
-pub mod Units
 pub mod States

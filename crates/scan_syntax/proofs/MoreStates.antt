@@ -1,9 +1,9 @@
 -- Steps of scans that give no number.
-use Rattle.std.proofs.Common.{◌≡◌, ℕ, Bool, true, false, List, [], ◌∷◌, ◌++◌, Result, Ok, Err, refl, sym}
+use Rattle.std.proofs.Common.{◌≡◌, ℕ, Bool, true, false, List, ◌∷◌, ◌++◌, Err, refl}
 use Rattle.tok_lists.specs.declared.token.Token.{Token}
-use Rattle.scan_syntax.specs.declared.fault.ScanFault.{ScanFault}
-use Rattle.scan_syntax.specs.declared.fault.ScanFault.TheVariants.{Kind, NoMemory}
-use Rattle.scan_syntax.specs.declared.fault.ScanKind.{ScanKind}
+use Rattle.scan_numbers.specs.declared.fault.ScanFault.{ScanFault}
+use Rattle.scan_numbers.specs.declared.fault.ScanFault.TheVariants.{Kind, NoMemory}
+use Rattle.scan_numbers.specs.declared.fault.ScanKind.{ScanKind}
 use Rattle.scan_syntax.specs.declared.scan.Scan.{Scan}
 use Rattle.scan_syntax.specs.declared.state.State.TheVariants as states
 use Rattle.scan_syntax.specs.declared.naming.Naming.{Naming}
@@ -12,10 +12,10 @@ use Rattle.scan_syntax.specs.declared.internal.Internal.TheVariants as parts
 use Rattle.scan_syntax.specs.declared.want.Value.{Value}
 use Rattle.scan_syntax.specs.declared.want.Value.TheVariants as values
 use Rattle.scan_syntax.specs.declared.want.Want.TheVariants as wants
-use Rattle.scan_syntax.specs.Contexts.{Context}
-use Rattle.scan_syntax.specs.Tokens.{FedToken, fed, put_back, not_taken, is_space}
-use Rattle.scan_syntax.specs.Answers.{Answer, Got, Bad, Expanded}
-use Rattle.scan_syntax.specs.Machines.{FormIs, Follows, whole}
+use Rattle.scan_numbers.specs.Contexts.{Context}
+use Rattle.scan_numbers.specs.Tokens.{FedToken, fed, put_back, not_taken, is_space}
+use Rattle.scan_numbers.specs.Answers.{Got, Bad, Expanded}
+use Rattle.scan_numbers.specs.Machines.{FormIs, Follows, whole}
 use Rattle.scan_syntax.specs.Relations.{equals, is_equals}
 use Rattle.scan_syntax.specs.FileNames.{file_name}
 use Rattle.scan_syntax.specs.Naming.{naming_left, same_name}

@@ -1,39 +1,40 @@
 -- Steps of scans of all kinds.
 use Rattle.std.proofs.Common.{◌≡◌, ℤ, Bool, true, false, List, [], ◌∷◌, ◌++◌, Result, Ok, Err, refl, subst, ap, append-nil, append_assoc, ◌∙◌}
-use Rattle.scan_syntax.specs.Contexts.{Context}
+use Rattle.scan_numbers.specs.Contexts.{Context}
 use Rattle.tok_lists.specs.declared.token.Token.{Token}
-use Rattle.scan_syntax.specs.declared.fault.ScanFault.{ScanFault}
-use Rattle.scan_syntax.specs.declared.fault.ScanKind.{ScanKind}
+use Rattle.scan_numbers.specs.declared.fault.ScanFault.{ScanFault}
+use Rattle.scan_numbers.specs.declared.fault.ScanKind.{ScanKind}
 use Rattle.scan_syntax.specs.declared.want.Value.{Value}
 use Rattle.scan_syntax.specs.declared.want.Want.{Want}
 use Rattle.scan_syntax.specs.declared.want.Want.TheVariants as wants
 use Rattle.scan_syntax.specs.declared.want.Fed.{Fed}
 use Rattle.scan_syntax.specs.declared.want.Fed.TheVariants as feds
-use Rattle.scan_syntax.specs.declared.fault.ScanFault.TheVariants.{Kind, NoMemory}
+use Rattle.scan_numbers.specs.declared.fault.ScanFault.TheVariants.{Kind, NoMemory}
 use Rattle.scan_syntax.specs.declared.scan.Scan.{Scan}
-use Rattle.scan_syntax.specs.Integers.{integer}
-use Rattle.scan_syntax.specs.Dimensions.{dimen}
+use Rattle.scan_numbers.specs.Integers.{integer}
+use Rattle.scan_numbers.specs.Dimensions.{dimen}
 use Rattle.scan_syntax.specs.declared.want.Value.TheVariants as values
-use Rattle.scan_syntax.specs.declared.integer.Integer.{Integer}
-use Rattle.scan_syntax.specs.declared.dimen.Dimen.{Dimen}
+use Rattle.scan_numbers.specs.declared.integer.Integer.{Integer}
+use Rattle.scan_numbers.specs.declared.dimen.Dimen.{Dimen}
 use Rattle.scan_syntax.specs.declared.keyword.Keyword.{Keyword}
 use Rattle.scan_syntax.specs.declared.gluing.Gluing.{Gluing}
-use Rattle.scan_syntax.specs.Amounts.{Amount}
+use Rattle.scan_numbers.specs.Amounts.{Amount}
 use Rattle.scan_syntax.specs.Glues.{glue, glue_signed}
 use Rattle.scan_syntax.specs.Gluing.{GlueMoves, glue_left}
 use Rattle.scan_syntax.specs.Values.{glue_value, size_value}
 use Rattle.scan_syntax.specs.BoxSizes.{box_size}
 use Rattle.scan_syntax.specs.declared.word.Word.{Word}
-use Rattle.scan_syntax.specs.Keywords.{keyword, word_letters}
+use Rattle.scan_numbers.specs.Keywords.{keyword}
+use Rattle.scan_syntax.specs.Words.{word_letters}
 use Rattle.scan_syntax.specs.Attempts.{Attempts, keyword_left}
 use Rattle.scan_syntax.proofs.Attempts.{keyword_needs}
 use Rattle.ts_geometry.specs.Directions.{sp}
-use Rattle.scan_syntax.specs.declared.fault.ScanKind.TheVariants.{NoNumber}
+use Rattle.scan_numbers.specs.declared.fault.ScanKind.TheVariants.{NoNumber}
 use Rattle.scan_syntax.specs.declared.state.State.{State}
 use Rattle.scan_syntax.specs.declared.state.State.TheVariants as states
-use Rattle.scan_syntax.specs.Tokens.{FedToken, fed, put_back, not_taken}
-use Rattle.scan_syntax.specs.Answers.{Answer, Got, Bad, Expanded, ◌>>=◌}
-use Rattle.scan_syntax.specs.Machines.{FormIs, Follows, value_of, amount_of, whole, integer_left, dimen_left}
+use Rattle.scan_numbers.specs.Tokens.{FedToken, fed, put_back, not_taken}
+use Rattle.scan_numbers.specs.Answers.{Answer, Got, Bad, Expanded, ◌>>=◌}
+use Rattle.scan_numbers.specs.Machines.{FormIs, Follows, value_of, amount_of, whole, integer_left, dimen_left}
 use Rattle.scan_syntax.specs.Scans.{Says, StandsOn, Steps, IsOpen, Stands, grammar}
 use Rattle.scan_syntax.specs.States.{state_left, reads, Moves}
 

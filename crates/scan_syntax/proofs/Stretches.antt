@@ -1,5 +1,5 @@
 -- Steps of glue.
-use Rattle.std.proofs.Common.{◌≡◌, ℕ, ℤ, pos, ◌+◌, ◌<◌, Bool, true, false, not, List, [], ◌∷◌, ◌++◌, length, drop, get_or, Result, Ok, Err, refl, ap, ◌∙◌}
+use Rattle.std.proofs.Common.{◌≡◌, ℕ, ℤ, ◌+◌, ◌<◌, Bool, true, false, not, List, [], ◌∷◌, ◌++◌, length, drop, get_or, Result, Ok, Err, refl, ap, ◌∙◌}
 use Rattle.ts_geometry.specs.declared.glue.Glue.{Glue}
 use Rattle.ts_geometry.specs.Directions.{sp}
 use Rattle.box_tree.specs.declared.node.BoxSize.TheVariants.{Natural, To, Spread}
@@ -7,27 +7,26 @@ use Rattle.scan_syntax.specs.declared.want.Value.{Value}
 use Rattle.scan_syntax.specs.declared.want.Value.TheVariants as values
 use Rattle.scan_syntax.specs.Values.{glue_value, size_value}
 use Rattle.scan_syntax.specs.BoxSizes.{box_size}
-use Rattle.scan_syntax.specs.Contexts.{Context}
+use Rattle.scan_numbers.specs.Contexts.{Context}
 use Rattle.tok_lists.specs.declared.token.Token.{Token}
-use Rattle.scan_syntax.specs.declared.number.Number.{Number}
-use Rattle.scan_syntax.specs.declared.amount.Amount.{Amount}
-use Rattle.scan_syntax.specs.Amounts.{Amount as TheAmount}
-use Rattle.scan_syntax.specs.declared.quantity.Quantity.{Quantity}
-use Rattle.scan_syntax.specs.declared.quantity.Quantity.TheVariants as quantities
-use Rattle.scan_syntax.specs.declared.quantity.HeldGlue.{HeldGlue}
-use Rattle.scan_syntax.specs.declared.quantity.Register.{Register}
-use Rattle.scan_syntax.specs.declared.integer.Integer.{Integer}
-use Rattle.scan_syntax.specs.declared.start.Start.{Start}
-use Rattle.scan_syntax.specs.declared.start.Start.TheVariants as starts
-use Rattle.scan_syntax.specs.declared.dimen.Piece.TheVariants as pieces
-use Rattle.scan_syntax.specs.Quantities.{reading}
-use Rattle.scan_syntax.specs.Integers.{integer}
-use Rattle.scan_syntax.proofs.Integers.{read_ok, read_err}
-use Rattle.scan_syntax.specs.declared.dimen.Dimen.{Dimen}
+use Rattle.scan_numbers.specs.declared.number.Number.{Number}
+use Rattle.scan_numbers.specs.declared.amount.Amount.{Amount}
+use Rattle.scan_numbers.specs.Amounts.{Amount as TheAmount}
+use Rattle.scan_numbers.specs.declared.quantity.Quantity.{Quantity}
+use Rattle.scan_numbers.specs.declared.quantity.Quantity.TheVariants as quantities
+use Rattle.scan_numbers.specs.declared.quantity.HeldGlue.{HeldGlue}
+use Rattle.scan_numbers.specs.declared.quantity.Register.{Register}
+use Rattle.scan_numbers.specs.declared.integer.Integer.{Integer}
+use Rattle.scan_numbers.specs.declared.start.Start.{Start}
+use Rattle.scan_numbers.specs.declared.start.Start.TheVariants as starts
+use Rattle.scan_numbers.specs.Quantities.{reading}
+use Rattle.scan_numbers.specs.Integers.{integer}
+use Rattle.scan_numbers.proofs.Follows.{read_ok, read_err}
+use Rattle.scan_numbers.specs.declared.dimen.Dimen.{Dimen}
 use Rattle.scan_syntax.specs.declared.keyword.Keyword.{Keyword}
-use Rattle.scan_syntax.specs.declared.fault.ScanFault.{ScanFault}
-use Rattle.scan_syntax.specs.declared.fault.ScanFault.TheVariants.{Kind, NoMemory}
-use Rattle.scan_syntax.specs.declared.fault.ScanKind.{ScanKind}
+use Rattle.scan_numbers.specs.declared.fault.ScanFault.{ScanFault}
+use Rattle.scan_numbers.specs.declared.fault.ScanFault.TheVariants.{Kind, NoMemory}
+use Rattle.scan_numbers.specs.declared.fault.ScanKind.{ScanKind}
 use Rattle.scan_syntax.specs.declared.gluing.Late.{Late}
 use Rattle.scan_syntax.specs.declared.gluing.Late.TheVariants as lates
 use Rattle.scan_syntax.specs.declared.gluing.Gluing.{Gluing}
@@ -36,11 +35,12 @@ use Rattle.scan_syntax.specs.declared.gluing.GlueMove.{GlueMove}
 use Rattle.scan_syntax.specs.declared.gluing.GlueMove.TheVariants.{On, Done}
 use Rattle.std.proofs.lemmas.List.{drop_more}
 use Rattle.scan_syntax.specs.declared.word.Sought.TheVariants as soughts
-use Rattle.scan_syntax.specs.Tokens.{FedToken, fed, put_back, not_taken, start}
-use Rattle.scan_syntax.specs.Answers.{Answer, Got, Bad, ◌>>=◌}
-use Rattle.scan_syntax.specs.Keywords.{keyword, letters_of}
-use Rattle.scan_syntax.specs.Dimensions.{dimen, from_quantity, with_sign}
-use Rattle.scan_syntax.specs.Machines.{Follows, FormIs, at, value_of, amount_of, integer_left, quantity_left, whole, left_of, dimen_left}
+use Rattle.scan_numbers.specs.Tokens.{FedToken, fed, put_back, not_taken, start}
+use Rattle.scan_numbers.specs.Answers.{Answer, Got, Bad, ◌>>=◌}
+use Rattle.scan_numbers.specs.Keywords.{keyword}
+use Rattle.scan_syntax.specs.Words.{letters_of}
+use Rattle.scan_numbers.specs.Dimensions.{dimen, dimen_signed, from_quantity, with_sign}
+use Rattle.scan_numbers.specs.Machines.{Follows, FormIs, value_of, amount_of, integer_left, quantity_left, whole, left_of, dimen_left}
 use Rattle.scan_syntax.specs.Attempts.{Attempts, keyword_left}
 use Rattle.scan_syntax.specs.Glues.{glue_of, glue, nothing, stretch, signed_glue, glue_signed, glue_from, quantity_glue}
 use Rattle.scan_syntax.specs.Gluing.{GlueMoves, late_left, glue_left, quantity_glue_left, then_stretch, is_number, begins_width}
@@ -255,10 +255,11 @@ width_by_start starts.Minus b x rest same turned is = absurd (false_is_not_true 
 width_by_start (starts.Internal q) b x rest same turned is = absurd (false_is_not_true is)
 width_by_start (starts.Register r) b x rest same turned is = absurd (false_is_not_true is)
 
-pub begin_width : (b : Bool) (token : Token) (context : Context) (rest : List FedToken) → begins_width (start token context) ≡ true
-    → glue_left (gluings.Signs b) (fed token context ∷ rest) ≡ glue_left (gluings.Width (at (record { negative = b; infinite = false }) pieces.Signs)) (fed token context ∷ rest)
-unfolding glue_left glue_signed dimen_left
-begin_width b token context rest is = rw (width_by_start (start token context) b (fed token context) rest (glue_signed b rest) (glue_signed (not b) rest) is) refl
+pub begin_width : (b : Bool) (d : Dimen) (token : Token) (context : Context) (rest : List FedToken) → begins_width (start token context) ≡ true
+    → ((list : List FedToken) → dimen_left d list ≡ dimen_signed b list)
+    → glue_left (gluings.Signs b) (fed token context ∷ rest) ≡ glue_left (gluings.Width d) (fed token context ∷ rest)
+unfolding glue_left glue_signed
+begin_width b d token context rest is fresh = rw (width_by_start (start token context) b (fed token context) rest (glue_signed b rest) (glue_signed (not b) rest) is, fresh (fed token context ∷ rest)) refl
 
 -- ---- registers and quantities
 

@@ -1,15 +1,16 @@
 -- What is still to be read of a keyword.
 use Rattle.std.specs.Prelude.{◌≡◌, ℕ, Bool, true, false, List, [], ◌∷◌, ◌++◌, length, drop, Result, Ok, Err}
-use Rattle.scan_syntax.specs.Contexts.{Context}
+use Rattle.scan_numbers.specs.Contexts.{Context}
 use Rattle.tok_lists.specs.declared.token.Token.{Token}
-use Rattle.scan_syntax.specs.declared.fault.ScanFault.{ScanFault}
-use Rattle.scan_syntax.specs.declared.fault.ScanFault.TheVariants.{Kind, NoMemory}
+use Rattle.scan_numbers.specs.declared.fault.ScanFault.{ScanFault}
+use Rattle.scan_numbers.specs.declared.fault.ScanFault.TheVariants.{Kind, NoMemory}
 use Rattle.scan_syntax.specs.declared.keyword.Keyword.{Keyword}
 use Rattle.scan_syntax.specs.declared.keyword.Attempt.{Attempt}
 use Rattle.scan_syntax.specs.declared.keyword.Attempt.TheVariants.{On, There, Not}
-use Rattle.scan_syntax.specs.Tokens.{FedToken, put_back}
-use Rattle.scan_syntax.specs.Answers.{Answer, Got, ◌>>=◌}
-use Rattle.scan_syntax.specs.Keywords.{letters, keyword, letters_of}
+use Rattle.scan_numbers.specs.Tokens.{FedToken, put_back}
+use Rattle.scan_numbers.specs.Answers.{Answer, Got, ◌>>=◌}
+use Rattle.scan_numbers.specs.Keywords.{letters, keyword}
+use Rattle.scan_syntax.specs.Words.{letters_of}
 
 -- Where a word isn't there, the letters before are left too.
 abbrev pub or_back : List Token → Bool → Context → List FedToken → Answer Bool

@@ -4,12 +4,13 @@ use Rattle.ts_geometry.specs.Directions.{sp}
 use Rattle.box_tree.specs.declared.node.BoxSize.{BoxSize}
 use Rattle.box_tree.specs.declared.node.BoxSize.TheVariants.{Natural, To, Spread}
 use Rattle.scan_syntax.specs.declared.word.Sought.TheVariants as soughts
-use Rattle.scan_syntax.specs.Contexts.{Context}
-use Rattle.scan_syntax.specs.Tokens.{FedToken}
-use Rattle.scan_syntax.specs.Amounts.{Amount}
-use Rattle.scan_syntax.specs.Answers.{Answer, Got, ◌>>=◌}
-use Rattle.scan_syntax.specs.Keywords.{keyword, letters_of}
-use Rattle.scan_syntax.specs.Dimensions.{dimen}
+use Rattle.scan_numbers.specs.Contexts.{Context}
+use Rattle.scan_numbers.specs.Tokens.{FedToken}
+use Rattle.scan_numbers.specs.Amounts.{Amount}
+use Rattle.scan_numbers.specs.Answers.{Answer, Got, ◌>>=◌}
+use Rattle.scan_numbers.specs.Keywords.{keyword}
+use Rattle.scan_syntax.specs.Words.{letters_of}
+use Rattle.scan_numbers.specs.Dimensions.{dimen}
 
 abbrev pub size_to : Amount → Context → List FedToken → Answer BoxSize
 size_to d context rest = Got (To (sp d.size)) context rest

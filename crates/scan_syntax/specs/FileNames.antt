@@ -1,12 +1,12 @@
 -- Names of files (The TeXbook, chapter 25).
-use Rattle.std.specs.Prelude.{ℕ, ◌==◌, ◌++◌, Bool, true, false, List, [], ◌∷◌, if◌then◌else◌, Option, Some, None}
+use Rattle.std.specs.Prelude.{ℕ, ◌==◌, Bool, false, List, [], ◌∷◌, if◌then◌else◌, Option, Some, None}
 use Rattle.ts_outside.specs.Names.{is_file_name}
 use Rattle.tok_lists.specs.declared.token.Token.{Token}
 use Rattle.tok_lists.specs.declared.token.Token.TheVariants as tokens
-use Rattle.scan_syntax.specs.declared.fault.ScanKind.TheVariants.{NoName}
-use Rattle.scan_syntax.specs.Contexts.{Context}
-use Rattle.scan_syntax.specs.Tokens.{FedToken, is_space}
-use Rattle.scan_syntax.specs.Answers.{Answer, Got, Needs, Bad, Expanded, ◌>>=◌}
+use Rattle.scan_numbers.specs.declared.fault.ScanKind.TheVariants.{NoName}
+use Rattle.scan_numbers.specs.Contexts.{Context}
+use Rattle.scan_numbers.specs.Tokens.{FedToken, is_space}
+use Rattle.scan_numbers.specs.Answers.{Answer, Got, Needs, Bad, Expanded, ◌>>=◌}
 
 -- The explicit characters of a name, of any category; a Japanese one is 0, which no name has.
 abbrev pub name_byte : Token → Option ℕ

@@ -3,19 +3,20 @@ use Rattle.std.specs.Prelude.{Bool, true, false, not, ℤ, pos, List, [], ◌∷
 use Rattle.ts_geometry.specs.Directions.{sp}
 use Rattle.ts_geometry.specs.declared.glue.Glue.{Glue}
 use Rattle.ts_geometry.specs.declared.glue.Order.TheVariants.{Normal}
-use Rattle.scan_syntax.specs.declared.quantity.HeldGlue.{HeldGlue}
-use Rattle.scan_syntax.specs.declared.quantity.Quantity.{Quantity}
-use Rattle.scan_syntax.specs.declared.quantity.Quantity.TheVariants as quantities
-use Rattle.scan_syntax.specs.declared.start.Start.{Start}
-use Rattle.scan_syntax.specs.declared.start.Start.TheVariants as starts
+use Rattle.scan_numbers.specs.declared.quantity.HeldGlue.{HeldGlue}
+use Rattle.scan_numbers.specs.declared.quantity.Quantity.{Quantity}
+use Rattle.scan_numbers.specs.declared.quantity.Quantity.TheVariants as quantities
+use Rattle.scan_numbers.specs.declared.start.Start.{Start}
+use Rattle.scan_numbers.specs.declared.start.Start.TheVariants as starts
 use Rattle.scan_syntax.specs.declared.word.Sought.TheVariants as soughts
-use Rattle.scan_syntax.specs.Contexts.{Context}
-use Rattle.scan_syntax.specs.Tokens.{FedToken, start}
-use Rattle.scan_syntax.specs.Amounts.{Amount, amount}
-use Rattle.scan_syntax.specs.Answers.{Answer, Got, Needs, Expanded, ◌>>=◌}
-use Rattle.scan_syntax.specs.Integers.{integer, register, signed}
-use Rattle.scan_syntax.specs.Keywords.{keyword, letters_of}
-use Rattle.scan_syntax.specs.Dimensions.{dimen, from_quantity, with_sign}
+use Rattle.scan_numbers.specs.Contexts.{Context}
+use Rattle.scan_numbers.specs.Tokens.{FedToken, start}
+use Rattle.scan_numbers.specs.Amounts.{Amount, amount}
+use Rattle.scan_numbers.specs.Answers.{Answer, Got, Needs, Expanded, ◌>>=◌}
+use Rattle.scan_numbers.specs.Integers.{integer, register, signed}
+use Rattle.scan_numbers.specs.Keywords.{keyword}
+use Rattle.scan_syntax.specs.Words.{letters_of}
+use Rattle.scan_numbers.specs.Dimensions.{dimen, from_quantity, with_sign}
 
 abbrev pub glue_of : ℤ → Amount → Amount → Glue
 glue_of width stretch shrink = record {

@@ -3,24 +3,24 @@ use Rattle.std.specs.Prelude.{◌≡◌, Bool, true, false, List, ◌++◌, Resu
 use Rattle.scan_syntax.specs.declared.want.Value.{Value}
 use Rattle.scan_syntax.specs.Values.{glue_value, size_value}
 use Rattle.scan_syntax.specs.BoxSizes.{box_size, if_to, if_spread, size_to, size_spread}
-use Rattle.scan_syntax.specs.Contexts.{Context}
-use Rattle.scan_syntax.specs.declared.fault.ScanFault.{ScanFault}
-use Rattle.scan_syntax.specs.declared.fault.ScanFault.TheVariants.{Kind, NoMemory}
+use Rattle.scan_numbers.specs.Contexts.{Context}
+use Rattle.scan_numbers.specs.declared.fault.ScanFault.{ScanFault}
+use Rattle.scan_numbers.specs.declared.fault.ScanFault.TheVariants.{Kind, NoMemory}
 use Rattle.scan_syntax.specs.declared.gluing.Late.{Late}
 use Rattle.scan_syntax.specs.declared.gluing.Late.TheVariants as lates
 use Rattle.scan_syntax.specs.declared.gluing.Gluing.{Gluing}
 use Rattle.scan_syntax.specs.declared.gluing.Gluing.TheVariants as gluings
 use Rattle.scan_syntax.specs.declared.gluing.GlueMove.{GlueMove}
 use Rattle.scan_syntax.specs.declared.gluing.GlueMove.TheVariants.{On, Done}
-use Rattle.scan_syntax.specs.Tokens.{FedToken, put_back}
-use Rattle.scan_syntax.specs.Answers.{Answer, Got, Bad, ◌>>=◌}
-use Rattle.scan_syntax.specs.Machines.{integer_left, dimen_left, left_of, amount_of}
-use Rattle.scan_syntax.specs.Integers.{register}
-use Rattle.scan_syntax.specs.Amounts.{Amount}
-use Rattle.scan_syntax.specs.declared.quantity.Quantity.{Quantity}
-use Rattle.scan_syntax.specs.declared.quantity.Quantity.TheVariants as quantities
-use Rattle.scan_syntax.specs.declared.start.Start.{Start}
-use Rattle.scan_syntax.specs.declared.start.Start.TheVariants as starts
+use Rattle.scan_numbers.specs.Tokens.{FedToken, put_back}
+use Rattle.scan_numbers.specs.Answers.{Answer, Got, Bad, ◌>>=◌}
+use Rattle.scan_numbers.specs.Machines.{integer_left, dimen_left, left_of, amount_of}
+use Rattle.scan_numbers.specs.Integers.{register}
+use Rattle.scan_numbers.specs.Amounts.{Amount}
+use Rattle.scan_numbers.specs.declared.quantity.Quantity.{Quantity}
+use Rattle.scan_numbers.specs.declared.quantity.Quantity.TheVariants as quantities
+use Rattle.scan_numbers.specs.declared.start.Start.{Start}
+use Rattle.scan_numbers.specs.declared.start.Start.TheVariants as starts
 use Rattle.scan_syntax.specs.Attempts.{keyword_left}
 use Rattle.scan_syntax.specs.Glues.{whole_glue, if_minus, if_plus, shrink, stretch, glue, glue_signed, quantity_glue}
 

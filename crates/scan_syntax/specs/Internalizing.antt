@@ -2,13 +2,13 @@
 use Rattle.std.specs.Prelude.{Bool, true, false, List}
 use Rattle.scan_syntax.specs.declared.internal.Internal.{Internal}
 use Rattle.scan_syntax.specs.declared.internal.Internal.TheVariants as internals
-use Rattle.scan_syntax.specs.declared.start.Start.{Start}
-use Rattle.scan_syntax.specs.declared.start.Start.TheVariants as starts
+use Rattle.scan_numbers.specs.declared.start.Start.{Start}
+use Rattle.scan_numbers.specs.declared.start.Start.TheVariants as starts
 use Rattle.scan_syntax.specs.declared.want.Value.{Value}
-use Rattle.scan_syntax.specs.Tokens.{FedToken}
-use Rattle.scan_syntax.specs.Answers.{Answer, ◌>>=◌}
-use Rattle.scan_syntax.specs.Integers.{register}
-use Rattle.scan_syntax.specs.Machines.{integer_left}
+use Rattle.scan_numbers.specs.Tokens.{FedToken}
+use Rattle.scan_numbers.specs.Answers.{Answer, ◌>>=◌}
+use Rattle.scan_numbers.specs.Integers.{register}
+use Rattle.scan_numbers.specs.Machines.{integer_left}
 use Rattle.scan_syntax.specs.Internals.{internal, whole_value, toks_register}
 
 abbrev pub same_value : Value → Value

@@ -13,20 +13,20 @@ use Rattle.env_groups.specs.declared.meaning.Meaning.TheVariants as meanings
 use Rattle.env_groups.specs.declared.prim.PrimitiveName.{PrimitiveName}
 use Rattle.env_groups.specs.declared.prim.PrimitiveName.TheVariants as prims
 use Rattle.env_groups.specs.Environments.{Nest, toks_at, meaning_at}
-use Rattle.scan_syntax.specs.declared.fault.ScanKind.{ScanKind}
-use Rattle.scan_syntax.specs.declared.fault.ScanKind.TheVariants.{NoNumber, RegisterRange}
-use Rattle.scan_syntax.specs.declared.quantity.Quantity.{Quantity}
-use Rattle.scan_syntax.specs.declared.quantity.Quantity.TheVariants as quantities
+use Rattle.scan_numbers.specs.declared.fault.ScanKind.{ScanKind}
+use Rattle.scan_numbers.specs.declared.fault.ScanKind.TheVariants.{NoNumber, RegisterRange}
+use Rattle.scan_numbers.specs.declared.quantity.Quantity.{Quantity}
+use Rattle.scan_numbers.specs.declared.quantity.Quantity.TheVariants as quantities
 use Rattle.scan_syntax.specs.declared.internal.Listed.{Listed}
 use Rattle.scan_syntax.specs.declared.internal.Listed.TheVariants.{Whole, Register, Nothing}
-use Rattle.scan_syntax.specs.declared.start.Start.{Start}
-use Rattle.scan_syntax.specs.declared.start.Start.TheVariants as starts
+use Rattle.scan_numbers.specs.declared.start.Start.{Start}
+use Rattle.scan_numbers.specs.declared.start.Start.TheVariants as starts
 use Rattle.scan_syntax.specs.declared.want.Value.{Value}
 use Rattle.scan_syntax.specs.declared.want.Value.TheVariants as values
-use Rattle.scan_syntax.specs.Contexts.{Context}
-use Rattle.scan_syntax.specs.Tokens.{FedToken, start}
-use Rattle.scan_syntax.specs.Answers.{Answer, Got, Needs, Bad, Expanded, ◌>>=◌}
-use Rattle.scan_syntax.specs.Integers.{integer, register, given}
+use Rattle.scan_numbers.specs.Contexts.{Context}
+use Rattle.scan_numbers.specs.Tokens.{FedToken, start}
+use Rattle.scan_numbers.specs.Answers.{Answer, Got, Needs, Bad, Expanded, ◌>>=◌}
+use Rattle.scan_numbers.specs.Integers.{integer, register, given}
 use Rattle.scan_syntax.specs.Glues.{signed_glue}
 
 abbrev pub quantity_value : Quantity → Value

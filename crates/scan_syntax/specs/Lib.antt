@@ -1,15 +1,4 @@
-pub mod Contexts
-pub mod ContextCodes
-pub mod Quantities
-pub mod Fonts
-pub mod Primitives
-pub mod Tokens
-pub mod Answers
-pub mod Integers
-pub mod Keywords
-pub mod Amounts
-pub mod Dimensions
-pub mod Machines
+pub mod Words
 pub mod Attempts
 pub mod Values
 pub mod Glues

@@ -1,9 +1,9 @@
 -- What is still to be read of the name of a file.
 use Rattle.std.specs.Prelude.{ℕ, ◌++◌, List, [], ◌∷◌}
 use Rattle.scan_syntax.specs.declared.naming.Naming.{Naming}
-use Rattle.scan_syntax.specs.Contexts.{Context}
-use Rattle.scan_syntax.specs.Tokens.{FedToken}
-use Rattle.scan_syntax.specs.Answers.{Answer, ◌>>=◌}
+use Rattle.scan_numbers.specs.Contexts.{Context}
+use Rattle.scan_numbers.specs.Tokens.{FedToken}
+use Rattle.scan_numbers.specs.Answers.{Answer, ◌>>=◌}
 use Rattle.scan_syntax.specs.FileNames.{name_bytes, file_named, file_name}
 
 abbrev pub same_name : List ℕ → List ℕ

@@ -4,9 +4,8 @@ use Rattle.tok_lists.specs.declared.token.Token.{Token}
 use Rattle.tok_lists.specs.declared.token.Token.TheVariants as tokens
 use Rattle.scan_syntax.specs.declared.want.Value.{Value}
 use Rattle.scan_syntax.specs.declared.want.Value.TheVariants as values
-use Rattle.scan_syntax.specs.Contexts.{Context}
-use Rattle.scan_syntax.specs.Tokens.{FedToken, is_space}
-use Rattle.scan_syntax.specs.Answers.{Answer, Got, Needs, Expanded}
+use Rattle.scan_numbers.specs.Tokens.{FedToken, is_space}
+use Rattle.scan_numbers.specs.Answers.{Answer, Got, Needs, Expanded}
 
 -- It has category 12.
 unfoldable pub is_equals : Token → Bool

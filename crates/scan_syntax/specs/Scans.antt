@@ -1,28 +1,25 @@
 -- What a scan stands for, and what it answers.
-use Rattle.std.specs.Prelude.{◌≡◌, Bool, false, ℕ, ℤ, List, [], ◌∷◌, ◌++◌, Result, Ok, Err}
-use Rattle.ts_geometry.specs.Directions.{sp}
-use Rattle.ts_geometry.specs.declared.glue.Glue.{Glue}
-use Rattle.scan_syntax.specs.Contexts.{Context}
+use Rattle.std.specs.Prelude.{◌≡◌, false, List, [], ◌∷◌, ◌++◌, Result, Ok, Err}
+use Rattle.scan_numbers.specs.Contexts.{Context}
 use Rattle.scan_syntax.specs.declared.want.Want.{Want}
 use Rattle.scan_syntax.specs.declared.want.Want.TheVariants as wants
 use Rattle.scan_syntax.specs.declared.want.Value.{Value}
-use Rattle.scan_syntax.specs.declared.want.Value.TheVariants as values
 use Rattle.scan_syntax.specs.declared.want.Fed.{Fed}
 use Rattle.scan_syntax.specs.declared.want.Fed.TheVariants as feds
-use Rattle.scan_syntax.specs.declared.fault.ScanFault.{ScanFault}
-use Rattle.scan_syntax.specs.declared.fault.ScanFault.TheVariants.{Kind, NoMemory}
-use Rattle.scan_syntax.specs.Tokens.{FedToken, put_back}
-use Rattle.scan_syntax.specs.Answers.{Form, Expanded, Raw, Answer, Got, Needs, Bad, ◌>>=◌}
-use Rattle.scan_syntax.specs.Integers.{integer}
-use Rattle.scan_syntax.specs.Dimensions.{dimen}
-use Rattle.scan_syntax.specs.Amounts.{Amount}
+use Rattle.scan_numbers.specs.declared.fault.ScanFault.{ScanFault}
+use Rattle.scan_numbers.specs.declared.fault.ScanFault.TheVariants.{Kind, NoMemory}
+use Rattle.scan_numbers.specs.Tokens.{FedToken, put_back}
+use Rattle.scan_numbers.specs.Answers.{Form, Expanded, Raw, Answer, Got, Needs, Bad, ◌>>=◌}
+use Rattle.scan_numbers.specs.Integers.{integer}
+use Rattle.scan_numbers.specs.Dimensions.{dimen}
 use Rattle.scan_syntax.specs.Values.{integer_value, dimen_value, glue_value, keyword_value, file_value, size_value}
 use Rattle.scan_syntax.specs.BoxSizes.{box_size}
 use Rattle.scan_syntax.specs.Internals.{internal}
 use Rattle.scan_syntax.specs.Relations.{equals}
 use Rattle.scan_syntax.specs.FileNames.{file_name}
 use Rattle.scan_syntax.specs.Glues.{glue}
-use Rattle.scan_syntax.specs.Keywords.{keyword, word_letters}
+use Rattle.scan_numbers.specs.Keywords.{keyword}
+use Rattle.scan_syntax.specs.Words.{word_letters}
 
 -- what each kind of scan says of a list of tokens
 unfoldable pub grammar : Want → List FedToken → Answer Value

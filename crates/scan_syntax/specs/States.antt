@@ -1,17 +1,17 @@
 -- The states of scans of all kinds.
 use Rattle.std.specs.Prelude.{◌≡◌, List, ◌∷◌, ◌++◌, Result, Ok, Err}
 use Rattle.scan_syntax.specs.declared.want.Value.{Value}
-use Rattle.scan_syntax.specs.declared.fault.ScanFault.{ScanFault}
-use Rattle.scan_syntax.specs.declared.fault.ScanFault.TheVariants.{Kind, NoMemory}
-use Rattle.scan_syntax.specs.declared.fault.ScanKind.TheVariants.{NoNumber}
+use Rattle.scan_numbers.specs.declared.fault.ScanFault.{ScanFault}
+use Rattle.scan_numbers.specs.declared.fault.ScanFault.TheVariants.{Kind, NoMemory}
+use Rattle.scan_numbers.specs.declared.fault.ScanKind.TheVariants.{NoNumber}
 use Rattle.scan_syntax.specs.declared.scan.Scan.{Scan}
 use Rattle.scan_syntax.specs.declared.state.State.{State}
 use Rattle.scan_syntax.specs.declared.state.State.TheVariants as states
 use Rattle.scan_syntax.specs.declared.state.Move.{Move}
 use Rattle.scan_syntax.specs.declared.state.Move.TheVariants.{On, Done}
-use Rattle.scan_syntax.specs.Tokens.{FedToken, put_back}
-use Rattle.scan_syntax.specs.Answers.{Answer, Got, Bad, ◌>>=◌}
-use Rattle.scan_syntax.specs.Machines.{FormIs, integer_left, dimen_left}
+use Rattle.scan_numbers.specs.Tokens.{FedToken, put_back}
+use Rattle.scan_numbers.specs.Answers.{Answer, Got, Bad, ◌>>=◌}
+use Rattle.scan_numbers.specs.Machines.{FormIs, integer_left, dimen_left}
 use Rattle.scan_syntax.specs.Attempts.{keyword_left}
 use Rattle.scan_syntax.specs.Gluing.{glue_left}
 use Rattle.scan_syntax.specs.Values.{integer_value, dimen_value, keyword_value, file_value}

@@ -5,10 +5,10 @@ use Rattle.ts_geometry.specs.declared.glue.Glue.{Glue}
 use Rattle.box_tree.specs.declared.node.BoxSize.{BoxSize}
 use Rattle.scan_syntax.specs.declared.want.Value.{Value}
 use Rattle.scan_syntax.specs.declared.want.Value.TheVariants as values
-use Rattle.scan_syntax.specs.Contexts.{Context}
-use Rattle.scan_syntax.specs.Tokens.{FedToken}
-use Rattle.scan_syntax.specs.Amounts.{Amount}
-use Rattle.scan_syntax.specs.Answers.{Answer, Got}
+use Rattle.scan_numbers.specs.Contexts.{Context}
+use Rattle.scan_numbers.specs.Tokens.{FedToken}
+use Rattle.scan_numbers.specs.Amounts.{Amount}
+use Rattle.scan_numbers.specs.Answers.{Answer, Got}
 
 abbrev pub integer_value : ℤ → Context → List FedToken → Answer Value
 integer_value n context rest = Got (values.Integer n) context rest

@@ -1,30 +1,25 @@
 //! Glue, and the sizes of boxes, which end with more than one token to put back.
 
 ghost use Rattle.std.specs.Prelude.{◌≡◌, ◌∷◌, [], List, true, pos};
-ghost use Rattle.scan_syntax.specs.Tokens.{FedToken, fed, put_back, start as the_start};
-ghost use Rattle.scan_syntax.specs.Amounts.{Amount as TheAmount};
+ghost use Rattle.scan_numbers.specs.Tokens.{FedToken, fed, put_back, start as the_start};
+ghost use Rattle.scan_numbers.specs.Amounts.{Amount as TheAmount};
 ghost use Rattle.scan_syntax.specs.Glues.{glue_of as the_glue_of, signed_glue as the_signed_glue, nothing as the_nothing};
 ghost use Rattle.scan_syntax.specs.Gluing.{glue_scanned, size_scanned, GlueMoves, late_left, glue_left, quantity_glue_left, then_stretch, is_number, begins_width};
-ghost use Rattle.scan_syntax.specs.Integers.{signed};
+ghost use Rattle.scan_numbers.specs.Integers.{signed};
 ghost use Rattle.ts_geometry.specs.Directions.{sp};
-ghost use Rattle.scan_syntax.specs.Machines.{Follows, FormIs, amount_of, dimen_left};
-ghost use Rattle.scan_syntax.specs.Answers.{Answer};
-ghost use Rattle.scan_syntax.specs.Contexts.{Context};
+ghost use Rattle.scan_numbers.specs.Machines.{Follows, FormIs, amount_of, dimen_left};
+ghost use Rattle.scan_numbers.specs.Answers.{Answer};
+ghost use Rattle.scan_numbers.specs.Contexts.{Context};
 ghost use Rattle.scan_syntax.specs.declared.want.Value.{Value};
 
-use crate::amount::Amount;
-use crate::context::Context;
-use crate::dimen::{Dimen, Manner, from_quantity};
-use crate::fault::ScanFault;
-use crate::integer::Integer;
 use crate::keyword::{Attempt, Keyword};
-use crate::number::Number;
-use crate::quantity::{HeldGlue, Quantity, Register, read};
-use crate::start::{Start, start_of};
-use crate::step::{Step, not_taken};
 use crate::want::Value;
 use crate::word::Sought;
 use box_tree::BoxSize;
+use scan_numbers::{
+    Amount, Context, Dimen, HeldGlue, Integer, Manner, Number, Quantity, Register, ScanFault,
+    Start, Step, from_quantity, not_taken, read, start_of,
+};
 use std::alloc::Global;
 use tok_lists::Token;
 use ts_geometry::{Glue, Order, Sp};

@@ -1,21 +1,17 @@
 //! Internal quantities, as `\the` takes them.
 
 ghost use Rattle.std.specs.Prelude.{◌≡◌, true};
-ghost use Rattle.scan_syntax.specs.Tokens.{FedToken, fed, start as the_start};
+ghost use Rattle.scan_numbers.specs.Tokens.{FedToken, fed, start as the_start};
 ghost use Rattle.scan_syntax.specs.Internals.{internal as an_internal, quantity_value as the_quantity_value, toks_held as the_toks_held, toks_reading, toks_start as the_toks_start, toks_meant as the_toks_meant, toks_named};
 ghost use Rattle.scan_syntax.specs.Internalizing.{internal_left, same_value, begins_none};
-ghost use Rattle.scan_syntax.specs.Machines.{Follows, FormIs};
+ghost use Rattle.scan_numbers.specs.Machines.{Follows, FormIs};
 
-use crate::context::Context;
-use crate::fault::{ScanFault, ScanKind};
 use crate::gluing::signed_glue;
-use crate::integer::Integer;
-use crate::number::Number;
-use crate::quantity::{Quantity, Register, read};
-use crate::start::{Start, start_of};
-use crate::step::Step;
 use crate::want::Value;
 use env_groups::{Meaning, Prim, ToksKey, ToksParam};
+use scan_numbers::{
+    Context, Integer, Number, Quantity, Register, ScanFault, ScanKind, Start, Step, read, start_of,
+};
 use std::alloc::Global;
 use tok_lists::Token;
 use ts_geometry::Sp;
@@ -53,7 +49,7 @@ fn quantity_value(quantity: Quantity) -> Value
 fn toks_held(key: ToksKey, context: &Context<'_>) -> Result<Value, ScanKind>
     ensures { result ≡ the_toks_held key context.now.env }
 {
-    match context.env.get_toks(key) {
+    match context.env().get_toks(key) {
         Ok(list) => Ok(Value::Toks(list)),
         Err(_) => Err(ScanKind::RegisterRange),
     }
@@ -102,7 +98,7 @@ fn list_begun(token: &Token, context: &Context<'_>) -> Listed
     ensures { result ≡ the_toks_start token.now context.now }
 {
     match token {
-        Token::Name(name) => meant(&context.env.get_meaning(*name)),
+        Token::Name(name) => meant(&context.env().get_meaning(*name)),
         Token::Char(..) | Token::Ja(_) | Token::Kept(_) | Token::Param(_) => Listed::Nothing,
     }
 }

@@ -1,12 +1,10 @@
 //! Keywords.
 
 ghost use Rattle.std.specs.Prelude.{◌≡◌, ◌<◌, length};
-ghost use Rattle.scan_syntax.specs.Keywords.{letters_of, is_letter as it_is_letter};
+ghost use Rattle.scan_syntax.specs.Words.{letters_of};
 
-use crate::context::Context;
-use crate::fault::ScanFault;
-use crate::start::{is_space, letter};
 use crate::word::Sought;
+use scan_numbers::{Context, ScanFault, is_letter, is_space, letter};
 use std::alloc::Global;
 use tok_lists::Token;
 
@@ -31,8 +29,9 @@ pub(crate) enum Attempt {
 impl Keyword {
     ghost use Rattle.scan_syntax.specs.Attempts.{Attempts, keyword_left, within_left};
     ghost use Rattle.std.specs.Prelude.{◌≡◌, List};
-    ghost use Rattle.scan_syntax.specs.Tokens.{FedToken, fed};
-    ghost use Rattle.scan_syntax.specs.Keywords.{letters_of, keyword as a_keyword};
+    ghost use Rattle.scan_numbers.specs.Tokens.{FedToken, fed};
+    ghost use Rattle.scan_numbers.specs.Keywords.{keyword as a_keyword};
+    ghost use Rattle.scan_syntax.specs.Words.{letters_of};
 
     #[tactic(auto, using(crate::proofs::Attempts::fresh, std::proofs::lemmas::Grind::common_steps))]
     pub(crate) fn new(alloc: Global, word: Sought) -> Keyword
@@ -74,15 +73,5 @@ impl Keyword {
             self.matched.push(*token)?;
             Ok(Attempt::On(self))
         }
-    }
-}
-
-/// Whether it is this letter.
-pub(crate) fn is_letter(wanted: u8, found: Option<u8>) -> bool
-    ensures { result ≡ it_is_letter wanted found }
-{
-    match found {
-        Some(letter) => letter == wanted,
-        None => false,
     }
 }

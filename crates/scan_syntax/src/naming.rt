@@ -1,15 +1,12 @@
 //! Names of files.
 
 ghost use Rattle.std.specs.Prelude.{◌≡◌, List};
-ghost use Rattle.scan_syntax.specs.Tokens.{FedToken, fed};
+ghost use Rattle.scan_numbers.specs.Tokens.{FedToken, fed};
 ghost use Rattle.scan_syntax.specs.FileNames.{file_name as a_file_name, name_byte as the_name_byte, ends_name as it_ends_name};
-ghost use Rattle.scan_syntax.specs.Machines.{Follows};
+ghost use Rattle.scan_numbers.specs.Machines.{Follows};
 ghost use Rattle.scan_syntax.specs.Naming.{naming_left, begun_left, same_name};
 
-use crate::context::Context;
-use crate::fault::{ScanFault, ScanKind};
-use crate::start::is_space;
-use crate::step::Step;
+use scan_numbers::{Context, ScanFault, ScanKind, Step, is_space};
 use std::alloc::Global;
 use tok_lists::Token;
 use ts_outside::{FileName, NameFault};

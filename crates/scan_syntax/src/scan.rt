@@ -1,16 +1,12 @@
 //! Scans.
 
 ghost use Rattle.std.specs.Prelude.{◌≡◌, ◌∷◌, ◌++◌, [], List};
-ghost use Rattle.scan_syntax.specs.Tokens.{FedToken, fed};
-ghost use Rattle.scan_syntax.specs.Contexts.{around};
+ghost use Rattle.scan_numbers.specs.Tokens.{FedToken, fed};
+ghost use Rattle.scan_numbers.specs.Contexts.{around};
 ghost use Rattle.scan_syntax.specs.States.{reads};
 ghost use Rattle.scan_syntax.specs.Scans.{grammar, Stands, Says, StandsOn, Steps, IsOpen};
 
-use crate::context::Context;
-use crate::dimen::Dimen;
-use crate::fault::ScanFault;
 use crate::gluing::Gluing;
-use crate::integer::Integer;
 use crate::internal::Internal;
 use crate::keyword::Keyword;
 use crate::naming::Naming;
@@ -18,6 +14,7 @@ use crate::state::{Move, State};
 use crate::want::{Fed, Want};
 use crate::word::Sought;
 use env_groups::Env;
+use scan_numbers::{Context, Dimen, Integer, ScanFault};
 use std::alloc::Global;
 use std::mem;
 use tok_lists::{Names, Token, Tokens};

@@ -1,21 +1,17 @@
 //! The state of a scan of any kind.
 
 ghost use Rattle.std.specs.Prelude.{◌≡◌, ◌∷◌, [], IfOk};
-ghost use Rattle.scan_syntax.specs.Tokens.{fed};
-ghost use Rattle.scan_syntax.specs.Machines.{left_of};
+ghost use Rattle.scan_numbers.specs.Tokens.{fed};
+ghost use Rattle.scan_numbers.specs.Machines.{left_of};
 ghost use Rattle.scan_syntax.specs.States.{state_left, Moves};
 
-use crate::context::Context;
-use crate::dimen::Dimen;
-use crate::fault::{ScanFault, ScanKind};
+use crate::equals::is_equals;
 use crate::gluing::{GlueMove, Gluing};
-use crate::integer::Integer;
 use crate::internal::Internal;
 use crate::keyword::{Attempt, Keyword};
 use crate::naming::Naming;
-use crate::start::{is_equals, is_space};
-use crate::step::{Step, not_taken};
 use crate::want::Value;
+use scan_numbers::{Context, Dimen, Integer, ScanFault, ScanKind, Step, is_space, not_taken};
 use std::alloc::Global;
 use tok_lists::Token;
 use ts_geometry::Sp;

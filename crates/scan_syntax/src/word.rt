@@ -1,7 +1,7 @@
 //! Keywords that are no units.
 
 ghost use Rattle.std.specs.Prelude.{◌≡◌};
-ghost use Rattle.scan_syntax.specs.Keywords.{word_letters, letters_of};
+ghost use Rattle.scan_syntax.specs.Words.{word_letters, letters_of};
 
 /// A keyword that may be looked for.
 #[derive(Clone, Copy, Debug, PartialEq, Eq, Hash)]

@@ -1,6 +1,6 @@
 use Rattle.std.proofs.Common.{true, sym, [], ◌∷◌}
 use Rattle.scan_syntax.specs.declared.gluing.Gluing.TheVariants as gluings
-use Rattle.scan_syntax.specs.Tokens.{fed}
+use Rattle.scan_numbers.specs.Tokens.{fed}
 use Rattle.scan_syntax.specs.Gluing.{glue_left, quantity_glue_left}
 use Rattle.scan_syntax.proofs.Stretches.{begin_internal, glue_same}
 use Rattle.scan_syntax.proofs.gluing.begin.Goals as goal

@@ -1,7 +1,7 @@
 use Rattle.std.proofs.Common.{[], ◌∷◌}
 use Rattle.scan_syntax.specs.declared.gluing.Gluing.TheVariants as gluings
 use Rattle.scan_syntax.specs.declared.gluing.Late.TheVariants as lates
-use Rattle.scan_syntax.specs.Tokens.{fed, put_back}
+use Rattle.scan_numbers.specs.Tokens.{fed, put_back}
 use Rattle.scan_syntax.specs.Gluing.{late_left, glue_left}
 use Rattle.scan_syntax.proofs.Stretches.{plus_on, plus_there, plus_not, glue_same}
 use Rattle.scan_syntax.proofs.gluing.in_plus.Goals as goal

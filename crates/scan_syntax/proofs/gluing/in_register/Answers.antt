@@ -1,6 +1,6 @@
 use Rattle.std.proofs.Common.{[], ◌∷◌}
 use Rattle.scan_syntax.specs.declared.gluing.Gluing.TheVariants as gluings
-use Rattle.scan_syntax.specs.Tokens.{fed}
+use Rattle.scan_numbers.specs.Tokens.{fed}
 use Rattle.scan_syntax.specs.Gluing.{glue_left, quantity_glue_left}
 use Rattle.scan_syntax.proofs.Stretches.{register_on, register_done, register_range, register_fault, glue_same}
 use Rattle.scan_syntax.proofs.gluing.in_register.Goals as goal

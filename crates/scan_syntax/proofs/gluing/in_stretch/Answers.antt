@@ -1,7 +1,7 @@
 use Rattle.std.proofs.Common.{true, false, sym, ◌∙◌, [], ◌∷◌}
 use Rattle.scan_syntax.specs.declared.gluing.Gluing.TheVariants as gluings
 use Rattle.scan_syntax.specs.declared.gluing.Late.TheVariants as lates
-use Rattle.scan_syntax.specs.Tokens.{fed}
+use Rattle.scan_numbers.specs.Tokens.{fed}
 use Rattle.scan_syntax.specs.Gluing.{late_left, glue_left}
 use Rattle.scan_syntax.proofs.Stretches.{stretch_on, stretch_bad, stretch_done, late_is, glue_same, dimen_glue_fault}
 use Rattle.scan_syntax.proofs.gluing.in_stretch.Goals as goal

@@ -1,7 +1,7 @@
 use Rattle.std.proofs.Common.{[], ◌∷◌}
 use Rattle.scan_syntax.specs.declared.gluing.Gluing.TheVariants as gluings
 use Rattle.scan_syntax.specs.declared.gluing.Late.TheVariants as lates
-use Rattle.scan_syntax.specs.Tokens.{fed, put_back}
+use Rattle.scan_numbers.specs.Tokens.{fed, put_back}
 use Rattle.scan_syntax.specs.Gluing.{late_left, glue_left}
 use Rattle.scan_syntax.proofs.Stretches.{to_on, to_there, to_not, to_fault, glue_same}
 use Rattle.scan_syntax.proofs.gluing.in_to.Goals as goal

@@ -1,7 +1,7 @@
 use Rattle.std.proofs.Common.{◌∙◌, w64}
 use Rattle.std.proofs.lemmas.Int.{to_z-of_z}
 use Rattle.scan_syntax.specs.declared.gluing.Gluing.TheVariants as gluings
-use Rattle.scan_syntax.specs.Tokens.{fed}
+use Rattle.scan_numbers.specs.Tokens.{fed}
 use Rattle.scan_syntax.proofs.Stretches.{to_size_on, to_size_done, to_size_bad, dimen_glue_fault}
 use Rattle.scan_syntax.proofs.gluing.in_to_size.Goals as goal
 

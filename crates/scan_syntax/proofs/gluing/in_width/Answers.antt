@@ -1,7 +1,7 @@
 use Rattle.std.proofs.Common.{[], ◌∷◌}
 use Rattle.scan_syntax.specs.declared.gluing.Gluing.TheVariants as gluings
-use Rattle.scan_syntax.specs.Tokens.{fed}
-use Rattle.scan_syntax.specs.Machines.{dimen_left}
+use Rattle.scan_numbers.specs.Tokens.{fed}
+use Rattle.scan_numbers.specs.Machines.{dimen_left}
 use Rattle.scan_syntax.specs.Gluing.{glue_left, then_stretch}
 use Rattle.scan_syntax.proofs.Stretches.{width_then, glue_same}
 use Rattle.scan_syntax.proofs.gluing.in_width.Goals as goal

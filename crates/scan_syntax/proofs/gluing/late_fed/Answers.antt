@@ -1,9 +1,9 @@
 use Rattle.std.proofs.Common.{sym, subst, ap, ◌∙◌, [], ◌∷◌, Err}
 use Rattle.scan_syntax.specs.declared.gluing.Late.{Late}
-use Rattle.scan_syntax.specs.Tokens.{fed}
-use Rattle.scan_syntax.specs.Amounts.{Amount}
+use Rattle.scan_numbers.specs.Tokens.{fed}
+use Rattle.scan_numbers.specs.Amounts.{Amount}
 use Rattle.scan_syntax.specs.Glues.{glue_of}
-use Rattle.scan_syntax.specs.Machines.{amount_of}
+use Rattle.scan_numbers.specs.Machines.{amount_of}
 use Rattle.scan_syntax.specs.Gluing.{GlueMoves, late_left}
 use Rattle.scan_syntax.proofs.Stretches.{spread_on, spread_there, spread_not, minus_not, shrink_done, shrink_fault}
 use Rattle.scan_syntax.proofs.gluing.late_fed.Goals as goal

@@ -1,5 +1,5 @@
 use Rattle.std.proofs.Common.{◌≡◌, List, ◌++◌, drop}
-use Rattle.scan_syntax.specs.Tokens.{FedToken, put_back}
+use Rattle.scan_numbers.specs.Tokens.{FedToken, put_back}
 use Rattle.scan_syntax.specs.Gluing.{late_left}
 use Rattle.scan_syntax.proofs.gluing.late_fed_all.Given as goal
 

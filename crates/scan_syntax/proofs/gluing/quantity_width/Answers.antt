@@ -1,7 +1,7 @@
 use Rattle.std.proofs.Common.{false, [], ◌∷◌}
-use Rattle.scan_syntax.specs.declared.dimen.Manner.{Manner}
-use Rattle.scan_syntax.specs.Tokens.{fed}
-use Rattle.scan_syntax.specs.Machines.{quantity_left}
+use Rattle.scan_numbers.specs.declared.dimen.Manner.{Manner}
+use Rattle.scan_numbers.specs.Tokens.{fed}
+use Rattle.scan_numbers.specs.Machines.{quantity_left}
 use Rattle.scan_syntax.specs.Gluing.{glue_left, quantity_glue_left, then_stretch}
 use Rattle.scan_syntax.proofs.Stretches.{quantity_then, glue_same}
 use Rattle.scan_syntax.proofs.gluing.quantity_width.Goals as goal

@@ -1,6 +1,6 @@
 use Rattle.std.proofs.Common.{◌∙◌, w64}
 use Rattle.std.proofs.lemmas.Int.{to_z-of_z}
-use Rattle.scan_syntax.specs.Tokens.{fed}
+use Rattle.scan_numbers.specs.Tokens.{fed}
 use Rattle.scan_syntax.proofs.Stretches.{spread_size_on, spread_size_done, spread_size_fault}
 use Rattle.scan_syntax.proofs.gluing.spread_size_fed.Goals as goal
 

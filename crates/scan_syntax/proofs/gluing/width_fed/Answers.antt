@@ -1,6 +1,6 @@
 use Rattle.std.proofs.Common.{true, false, [], ◌∷◌}
 use Rattle.scan_syntax.specs.declared.gluing.Gluing.TheVariants as gluings
-use Rattle.scan_syntax.specs.Tokens.{fed}
+use Rattle.scan_numbers.specs.Tokens.{fed}
 use Rattle.scan_syntax.specs.Gluing.{glue_left, then_stretch}
 use Rattle.scan_syntax.proofs.Stretches.{width_on, width_done, width_fault, glue_same}
 use Rattle.scan_syntax.proofs.gluing.width_fed.Goals as goal

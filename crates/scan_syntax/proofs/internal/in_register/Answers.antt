@@ -1,8 +1,8 @@
 use Rattle.scan_syntax.specs.declared.internal.Internal.TheVariants as internals
-use Rattle.scan_syntax.specs.Tokens.{fed}
-use Rattle.scan_syntax.specs.Machines.{value_of, integer_left}
+use Rattle.scan_numbers.specs.Tokens.{fed}
+use Rattle.scan_numbers.specs.Machines.{value_of, integer_left}
 use Rattle.scan_syntax.specs.Internalizing.{internal_left, same_value}
-use Rattle.scan_syntax.proofs.Follows.{bad_passes}
+use Rattle.scan_numbers.proofs.Follows.{bad_passes}
 use Rattle.scan_syntax.proofs.Internals.{register_on, register_done, register_range, register_bad}
 use Rattle.scan_syntax.proofs.internal.in_register.Goals as goal
 

@@ -1,4 +1,4 @@
-use Rattle.scan_syntax.specs.Tokens.{fed}
+use Rattle.scan_numbers.specs.Tokens.{fed}
 use Rattle.scan_syntax.proofs.States.{glue_further, glue_form, glue_done, glue_fault}
 use Rattle.scan_syntax.proofs.state.glue_fed.Goals as goal
 

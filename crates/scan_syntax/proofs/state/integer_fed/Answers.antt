@@ -1,6 +1,6 @@
 use Rattle.std.proofs.Common.{◌∙◌, w64}
 use Rattle.std.proofs.lemmas.Int.{to_z-of_z}
-use Rattle.scan_syntax.specs.Tokens.{fed}
+use Rattle.scan_numbers.specs.Tokens.{fed}
 use Rattle.scan_syntax.proofs.States.{integer_done, integer_fault}
 use Rattle.scan_syntax.proofs.state.integer_fed.Goals as goal
 

@@ -1,4 +1,4 @@
-use Rattle.scan_syntax.specs.Tokens.{fed}
+use Rattle.scan_numbers.specs.Tokens.{fed}
 use Rattle.scan_syntax.proofs.MoreStates.{internal_form, internal_further, internal_done, internal_fault}
 use Rattle.scan_syntax.proofs.state.internal_fed.Goals as goal
 

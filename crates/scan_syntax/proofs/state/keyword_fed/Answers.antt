@@ -1,4 +1,4 @@
-use Rattle.scan_syntax.specs.Tokens.{fed}
+use Rattle.scan_numbers.specs.Tokens.{fed}
 use Rattle.scan_syntax.proofs.States.{keyword_form, keyword_further, keyword_there, keyword_not, keyword_fault}
 use Rattle.scan_syntax.proofs.state.keyword_fed.Goals as goal
 

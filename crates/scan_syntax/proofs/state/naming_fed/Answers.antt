@@ -1,4 +1,4 @@
-use Rattle.scan_syntax.specs.Tokens.{fed}
+use Rattle.scan_numbers.specs.Tokens.{fed}
 use Rattle.scan_syntax.proofs.MoreStates.{naming_form, naming_further, naming_done, naming_fault}
 use Rattle.scan_syntax.proofs.state.naming_fed.Goals as goal
 

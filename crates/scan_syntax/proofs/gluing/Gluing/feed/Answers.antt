@@ -1,5 +1,5 @@
 use Rattle.std.proofs.Common.{[], ◌∷◌}
-use Rattle.scan_syntax.specs.Tokens.{fed}
+use Rattle.scan_numbers.specs.Tokens.{fed}
 use Rattle.scan_syntax.specs.Gluing.{late_left, glue_left}
 use Rattle.scan_syntax.proofs.Stretches.{late_is, glue_same}
 use Rattle.scan_syntax.proofs.gluing.Gluing.feed.Goals as goal

@@ -1,5 +1,5 @@
 use Rattle.std.proofs.Common.{◌≡◌, length, vec_len, arith}
-use Rattle.scan_syntax.specs.Tokens.{fed}
+use Rattle.scan_numbers.specs.Tokens.{fed}
 use Rattle.scan_syntax.proofs.Attempts.{space_on, first_follows, next_follows}
 use Rattle.scan_syntax.proofs.keyword.Keyword.feed.Goals as goal
 

@@ -1,5 +1,5 @@
 use Rattle.std.proofs.Common.{◌≡◌, length, vec_len, arith}
-use Rattle.scan_syntax.specs.Tokens.{fed}
+use Rattle.scan_numbers.specs.Tokens.{fed}
 use Rattle.scan_syntax.proofs.FileNames.{space_on, first_follows, later_follows}
 use Rattle.scan_syntax.proofs.naming.Naming.feed.Goals as goal
 

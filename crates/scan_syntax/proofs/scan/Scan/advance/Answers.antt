@@ -1,4 +1,4 @@
-use Rattle.scan_syntax.specs.Tokens.{fed}
+use Rattle.scan_numbers.specs.Tokens.{fed}
 use Rattle.scan_syntax.proofs.States.{raw_steps, expanded_steps, done_steps, fault_steps}
 use Rattle.scan_syntax.proofs.scan.Scan.advance.Goals as goal
 

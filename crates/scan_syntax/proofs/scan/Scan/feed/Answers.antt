@@ -1,5 +1,5 @@
-use Rattle.scan_syntax.specs.Contexts.{around}
-use Rattle.scan_syntax.specs.Tokens.{fed}
+use Rattle.scan_numbers.specs.Contexts.{around}
+use Rattle.scan_numbers.specs.Tokens.{fed}
 use Rattle.scan_syntax.specs.States.{reads}
 use Rattle.scan_syntax.proofs.States.{exact_step, stands_step}
 use Rattle.scan_syntax.proofs.scan.Scan.feed.Goals as goal

@@ -1,0 +1,5 @@
+pub mod Constants
+pub mod Dimensions
+pub mod Follows
+pub mod Integers
+pub mod Units
