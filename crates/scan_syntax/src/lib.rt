@@ -9,6 +9,8 @@ mod keyword;
 mod naming;
 mod scan;
 mod state;
+#[cfg(test)]
+mod tests;
 mod want;
 mod word;
 
