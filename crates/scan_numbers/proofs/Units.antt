@@ -9,12 +9,12 @@ use Rattle.scan_numbers.specs.declared.fault.ScanKind.TheVariants.{NoUnit}
 use Rattle.scan_numbers.specs.declared.letters.First.{First}
 use Rattle.scan_numbers.specs.declared.letters.First.TheVariants as firsts
 use Rattle.scan_numbers.specs.declared.measure.Unit.{Unit}
-use Rattle.scan_numbers.specs.declared.measure.Unit.TheVariants.{Quarter}
+use Rattle.scan_numbers.specs.declared.measure.Unit.TheVariants.{Point, Pica, Inch, BigPoint, Centimeter, Millimeter, Didot, Cicero, Scaled, Quarter, Em, Ex, Zw, Zh}
 use Rattle.scan_numbers.specs.Tokens.{FedToken, fed, start, is_space, letter}
 use Rattle.scan_numbers.specs.Answers.{Answer, Got, Needs, Bad, Expanded, ◌>>=◌}
 use Rattle.scan_numbers.specs.Keywords.{keyword, letters, is_letter, or_left}
 use Rattle.scan_numbers.specs.Dimensions.{one_of, unit_names}
-use Rattle.scan_numbers.specs.Machines.{second, first_of}
+use Rattle.scan_numbers.specs.Machines.{second, first_of, second_letter, found, one_way, two_ways}
 
 -- ---- a table of names of one or two letters, read letter by letter
 
@@ -121,165 +121,71 @@ first_none token context rest dark is = none_by unit_names token context rest da
 
 -- ---- the first of two letters
 
-rows_101_next : (context : Context) (y : FedToken) (rest : List FedToken) (o : Option ℕ) → letter y.token ≡ o
-    → rows unit_names (Some 101) context (y ∷ rest) ≡ second 101 (y ∷ rest)
-unfolding unit_names second
-rows_101_next context y rest None next = rw next refl
-rows_101_next context y rest (Some c) next =
-    elim (eqb_tells c 109) [
-      | inl yes0 ↦ rw (next, yes0.0) refl
-      | inr no0 ↦
-          elim (eqb_tells c 120) [
-            | inl yes1 ↦ rw (next, no0.0, yes1.0) refl
-            | inr no1 ↦
-                rw (next, no0.0, no1.0) refl
-          ]
-    ]
+-- a unit that one second letter makes
+one_second : (b : ℕ) (u : Unit) (y : FedToken) (rest : List FedToken) (name : Option ℕ → Option Unit) (o : Option ℕ) → name None ≡ None → ((c : ℕ) → name (Some c) ≡ one_way c b u)
+    → (if is_letter b o then Got u y.context rest else Bad NoUnit) ≡ found (name o) y rest
+one_second b u y rest name None none some = rw none refl
+one_second b u y rest name (Some c) none some = rw (some c) (by_test (c == b))
+  where
+    by_test : (is : Bool) → (if is then Got u y.context rest else Bad NoUnit) ≡ found (if is then Some u else None) y rest
+    by_test true = refl
+    by_test false = refl
+
+-- two units that two second letters make
+two_seconds : (b d : ℕ) (u v : Unit) (y : FedToken) (rest : List FedToken) (name : Option ℕ → Option Unit) (o : Option ℕ) → name None ≡ None → ((c : ℕ) → name (Some c) ≡ two_ways c b u d v)
+    → (if is_letter b o then Got u y.context rest else (if is_letter d o then Got v y.context rest else Bad NoUnit)) ≡ found (name o) y rest
+two_seconds b d u v y rest name None none some = rw none refl
+two_seconds b d u v y rest name (Some c) none some = rw (some c) (by_tests (c == b) (c == d))
+  where
+    by_tests : (is also : Bool) → (if is then Got u y.context rest else (if also then Got v y.context rest else Bad NoUnit)) ≡ found (if is then Some u else (if also then Some v else None)) y rest
+    by_tests true also = refl
+    by_tests false true = refl
+    by_tests false false = refl
 
 rows_101 : (context : Context) (rest : List FedToken) → rows unit_names (Some 101) context rest ≡ second 101 rest
 unfolding unit_names second
 rows_101 context [] = refl
-rows_101 context (y ∷ rest) = rows_101_next context y rest (letter y.token) refl
-
-rows_122_next : (context : Context) (y : FedToken) (rest : List FedToken) (o : Option ℕ) → letter y.token ≡ o
-    → rows unit_names (Some 122) context (y ∷ rest) ≡ second 122 (y ∷ rest)
-unfolding unit_names second
-rows_122_next context y rest None next = rw next refl
-rows_122_next context y rest (Some c) next =
-    elim (eqb_tells c 119) [
-      | inl yes0 ↦ rw (next, yes0.0) refl
-      | inr no0 ↦
-          elim (eqb_tells c 104) [
-            | inl yes1 ↦ rw (next, no0.0, yes1.0) refl
-            | inr no1 ↦
-                rw (next, no0.0, no1.0) refl
-          ]
-    ]
+rows_101 context (y ∷ rest) = two_seconds 109 120 Em Ex y rest (second_letter 101) (letter y.token) refl (λ c. refl)
 
 rows_122 : (context : Context) (rest : List FedToken) → rows unit_names (Some 122) context rest ≡ second 122 rest
 unfolding unit_names second
 rows_122 context [] = refl
-rows_122 context (y ∷ rest) = rows_122_next context y rest (letter y.token) refl
-
-rows_105_next : (context : Context) (y : FedToken) (rest : List FedToken) (o : Option ℕ) → letter y.token ≡ o
-    → rows unit_names (Some 105) context (y ∷ rest) ≡ second 105 (y ∷ rest)
-unfolding unit_names second
-rows_105_next context y rest None next = rw next refl
-rows_105_next context y rest (Some c) next =
-    elim (eqb_tells c 110) [
-      | inl yes0 ↦ rw (next, yes0.0) refl
-      | inr no0 ↦
-          rw (next, no0.0) refl
-    ]
+rows_122 context (y ∷ rest) = two_seconds 119 104 Zw Zh y rest (second_letter 122) (letter y.token) refl (λ c. refl)
 
 rows_105 : (context : Context) (rest : List FedToken) → rows unit_names (Some 105) context rest ≡ second 105 rest
 unfolding unit_names second
 rows_105 context [] = refl
-rows_105 context (y ∷ rest) = rows_105_next context y rest (letter y.token) refl
-
-rows_112_next : (context : Context) (y : FedToken) (rest : List FedToken) (o : Option ℕ) → letter y.token ≡ o
-    → rows unit_names (Some 112) context (y ∷ rest) ≡ second 112 (y ∷ rest)
-unfolding unit_names second
-rows_112_next context y rest None next = rw next refl
-rows_112_next context y rest (Some c) next =
-    elim (eqb_tells c 116) [
-      | inl yes0 ↦ rw (next, yes0.0) refl
-      | inr no0 ↦
-          elim (eqb_tells c 99) [
-            | inl yes1 ↦ rw (next, no0.0, yes1.0) refl
-            | inr no1 ↦
-                rw (next, no0.0, no1.0) refl
-          ]
-    ]
+rows_105 context (y ∷ rest) = one_second 110 Inch y rest (second_letter 105) (letter y.token) refl (λ c. refl)
 
 rows_112 : (context : Context) (rest : List FedToken) → rows unit_names (Some 112) context rest ≡ second 112 rest
 unfolding unit_names second
 rows_112 context [] = refl
-rows_112 context (y ∷ rest) = rows_112_next context y rest (letter y.token) refl
-
-rows_99_next : (context : Context) (y : FedToken) (rest : List FedToken) (o : Option ℕ) → letter y.token ≡ o
-    → rows unit_names (Some 99) context (y ∷ rest) ≡ second 99 (y ∷ rest)
-unfolding unit_names second
-rows_99_next context y rest None next = rw next refl
-rows_99_next context y rest (Some c) next =
-    elim (eqb_tells c 109) [
-      | inl yes0 ↦ rw (next, yes0.0) refl
-      | inr no0 ↦
-          elim (eqb_tells c 99) [
-            | inl yes1 ↦ rw (next, no0.0, yes1.0) refl
-            | inr no1 ↦
-                rw (next, no0.0, no1.0) refl
-          ]
-    ]
+rows_112 context (y ∷ rest) = two_seconds 116 99 Point Pica y rest (second_letter 112) (letter y.token) refl (λ c. refl)
 
 rows_99 : (context : Context) (rest : List FedToken) → rows unit_names (Some 99) context rest ≡ second 99 rest
 unfolding unit_names second
 rows_99 context [] = refl
-rows_99 context (y ∷ rest) = rows_99_next context y rest (letter y.token) refl
-
-rows_109_next : (context : Context) (y : FedToken) (rest : List FedToken) (o : Option ℕ) → letter y.token ≡ o
-    → rows unit_names (Some 109) context (y ∷ rest) ≡ second 109 (y ∷ rest)
-unfolding unit_names second
-rows_109_next context y rest None next = rw next refl
-rows_109_next context y rest (Some c) next =
-    elim (eqb_tells c 109) [
-      | inl yes0 ↦ rw (next, yes0.0) refl
-      | inr no0 ↦
-          rw (next, no0.0) refl
-    ]
+rows_99 context (y ∷ rest) = two_seconds 109 99 Centimeter Cicero y rest (second_letter 99) (letter y.token) refl (λ c. refl)
 
 rows_109 : (context : Context) (rest : List FedToken) → rows unit_names (Some 109) context rest ≡ second 109 rest
 unfolding unit_names second
 rows_109 context [] = refl
-rows_109 context (y ∷ rest) = rows_109_next context y rest (letter y.token) refl
-
-rows_98_next : (context : Context) (y : FedToken) (rest : List FedToken) (o : Option ℕ) → letter y.token ≡ o
-    → rows unit_names (Some 98) context (y ∷ rest) ≡ second 98 (y ∷ rest)
-unfolding unit_names second
-rows_98_next context y rest None next = rw next refl
-rows_98_next context y rest (Some c) next =
-    elim (eqb_tells c 112) [
-      | inl yes0 ↦ rw (next, yes0.0) refl
-      | inr no0 ↦
-          rw (next, no0.0) refl
-    ]
+rows_109 context (y ∷ rest) = one_second 109 Millimeter y rest (second_letter 109) (letter y.token) refl (λ c. refl)
 
 rows_98 : (context : Context) (rest : List FedToken) → rows unit_names (Some 98) context rest ≡ second 98 rest
 unfolding unit_names second
 rows_98 context [] = refl
-rows_98 context (y ∷ rest) = rows_98_next context y rest (letter y.token) refl
-
-rows_100_next : (context : Context) (y : FedToken) (rest : List FedToken) (o : Option ℕ) → letter y.token ≡ o
-    → rows unit_names (Some 100) context (y ∷ rest) ≡ second 100 (y ∷ rest)
-unfolding unit_names second
-rows_100_next context y rest None next = rw next refl
-rows_100_next context y rest (Some c) next =
-    elim (eqb_tells c 100) [
-      | inl yes0 ↦ rw (next, yes0.0) refl
-      | inr no0 ↦
-          rw (next, no0.0) refl
-    ]
+rows_98 context (y ∷ rest) = one_second 112 BigPoint y rest (second_letter 98) (letter y.token) refl (λ c. refl)
 
 rows_100 : (context : Context) (rest : List FedToken) → rows unit_names (Some 100) context rest ≡ second 100 rest
 unfolding unit_names second
 rows_100 context [] = refl
-rows_100 context (y ∷ rest) = rows_100_next context y rest (letter y.token) refl
-
-rows_115_next : (context : Context) (y : FedToken) (rest : List FedToken) (o : Option ℕ) → letter y.token ≡ o
-    → rows unit_names (Some 115) context (y ∷ rest) ≡ second 115 (y ∷ rest)
-unfolding unit_names second
-rows_115_next context y rest None next = rw next refl
-rows_115_next context y rest (Some c) next =
-    elim (eqb_tells c 112) [
-      | inl yes0 ↦ rw (next, yes0.0) refl
-      | inr no0 ↦
-          rw (next, no0.0) refl
-    ]
+rows_100 context (y ∷ rest) = one_second 100 Didot y rest (second_letter 100) (letter y.token) refl (λ c. refl)
 
 rows_115 : (context : Context) (rest : List FedToken) → rows unit_names (Some 115) context rest ≡ second 115 rest
 unfolding unit_names second
 rows_115 context [] = refl
-rows_115 context (y ∷ rest) = rows_115_next context y rest (letter y.token) refl
+rows_115 context (y ∷ rest) = one_second 112 Scaled y rest (second_letter 115) (letter y.token) refl (λ c. refl)
 
 -- ---- any letter
 
@@ -332,53 +238,28 @@ no_rows a context rest none = rows_miss unit_names (Some a) context rest (all_mi
 abbrev Read : ℕ → Context → List FedToken → Type 0
 Read a context rest = rows unit_names (Some a) context rest ≡ first_answer (first_of a) a context rest
 
-first_rows : (a : ℕ) (context : Context) (rest : List FedToken) → rows unit_names (Some a) context rest ≡ first_answer (first_of a) a context rest
-first_rows a context rest =
-    elim (eqb_tells a 113) [
-      | inl here ↦ subst (λ n. Read n context rest) (sym here.1) (rows_113 context rest)
-      | inr no113 ↦
-          elim (eqb_tells a 104) [
-            | inl here ↦ subst (λ n. Read n context rest) (sym here.1) (rows_104 context rest)
-            | inr no104 ↦
-                elim (eqb_tells a 101) [
-                  | inl here ↦ subst (λ n. Read n context rest) (sym here.1) (rows_101 context rest)
-                  | inr no101 ↦
-                      elim (eqb_tells a 122) [
-                        | inl here ↦ subst (λ n. Read n context rest) (sym here.1) (rows_122 context rest)
-                        | inr no122 ↦
-                            elim (eqb_tells a 105) [
-                              | inl here ↦ subst (λ n. Read n context rest) (sym here.1) (rows_105 context rest)
-                              | inr no105 ↦
-                                  elim (eqb_tells a 112) [
-                                    | inl here ↦ subst (λ n. Read n context rest) (sym here.1) (rows_112 context rest)
-                                    | inr no112 ↦
-                                        elim (eqb_tells a 99) [
-                                          | inl here ↦ subst (λ n. Read n context rest) (sym here.1) (rows_99 context rest)
-                                          | inr no99 ↦
-                                              elim (eqb_tells a 109) [
-                                                | inl here ↦ subst (λ n. Read n context rest) (sym here.1) (rows_109 context rest)
-                                                | inr no109 ↦
-                                                    elim (eqb_tells a 98) [
-                                                      | inl here ↦ subst (λ n. Read n context rest) (sym here.1) (rows_98 context rest)
-                                                      | inr no98 ↦
-                                                          elim (eqb_tells a 100) [
-                                                            | inl here ↦ subst (λ n. Read n context rest) (sym here.1) (rows_100 context rest)
-                                                            | inr no100 ↦
-                                                                elim (eqb_tells a 115) [
-                                                                  | inl here ↦ subst (λ n. Read n context rest) (sym here.1) (rows_115 context rest)
-                                                                  | inr no115 ↦
-                                                                      no_rows a context rest (no113.0, no104.0, no101.0, no122.0, no105.0, no112.0, no99.0, no109.0, no98.0, no100.0, no115.0)
-                                                                ]
-                                                          ]
-                                                    ]
-                                              ]
-                                        ]
-                                  ]
-                            ]
-                      ]
-                ]
-          ]
+-- a letter is this one, or another
+or_other : (a k : ℕ) (context : Context) (rest : List FedToken) → Read k context rest → (a == k ≡ false → Read a context rest) → Read a context rest
+or_other a k context rest this other =
+    elim (eqb_tells a k) [
+      | inl here ↦ subst (λ n. Read n context rest) (sym here.1) this
+      | inr unlike ↦ other unlike.0
     ]
+
+first_rows : (a : ℕ) (context : Context) (rest : List FedToken) → Read a context rest
+first_rows a context rest =
+    or_other a 113 context rest (rows_113 context rest) (λ no113.
+    or_other a 104 context rest (rows_104 context rest) (λ no104.
+    or_other a 101 context rest (rows_101 context rest) (λ no101.
+    or_other a 122 context rest (rows_122 context rest) (λ no122.
+    or_other a 105 context rest (rows_105 context rest) (λ no105.
+    or_other a 112 context rest (rows_112 context rest) (λ no112.
+    or_other a 99 context rest (rows_99 context rest) (λ no99.
+    or_other a 109 context rest (rows_109 context rest) (λ no109.
+    or_other a 98 context rest (rows_98 context rest) (λ no98.
+    or_other a 100 context rest (rows_100 context rest) (λ no100.
+    or_other a 115 context rest (rows_115 context rest) (λ no115.
+    no_rows a context rest (no113, no104, no101, no122, no105, no112, no99, no109, no98, no100, no115))))))))))))
 
 pub first_letter : (a : ℕ) (token : Token) (context : Context) (rest : List FedToken) → is_space token context ≡ false → letter token ≡ Some a
     → one_of unit_names (fed token context ∷ rest) ≡ first_answer (first_of a) a context rest

@@ -2,10 +2,14 @@
 
 ghost use Rattle.std.specs.Prelude.{◌≡◌, ◌&&◌, List, true, false, if◌then◌else◌};
 ghost use Rattle.scan_numbers.specs.Contexts.{Context};
-ghost use Rattle.scan_numbers.specs.Tokens.{FedToken, fed, start as the_start, letter as the_letter};
-ghost use Rattle.scan_numbers.specs.Dimensions.{dimen as a_dimen, dimen_signed, order_of, of_measure};
+ghost use Rattle.scan_numbers.specs.Tokens.{FedToken, fed, start as the_start};
+ghost use Rattle.scan_numbers.specs.Tokens.{letter as the_letter};
+ghost use Rattle.scan_numbers.specs.Dimensions.{dimen as a_dimen, dimen_signed, order_of};
+ghost use Rattle.scan_numbers.specs.Dimensions.{of_measure};
 ghost use Rattle.scan_numbers.specs.Keywords.{is_letter as it_is_letter};
-ghost use Rattle.scan_numbers.specs.Machines.{Follows, Reads, FormIs, amount_of, at, turned_manner, next_order, dimen_left, finished, quantity_left, is_named, is_whole};
+ghost use Rattle.scan_numbers.specs.Machines.{Follows, Reads, FormIs, amount_of, at, turned_manner};
+ghost use Rattle.scan_numbers.specs.Machines.{next_order, dimen_left, finished, quantity_left};
+ghost use Rattle.scan_numbers.specs.Machines.{is_named, is_whole};
 
 use crate::amount::Amount;
 use crate::constant::Constant;
@@ -630,7 +634,7 @@ fn in_unit_register(
     context: &Context<'_>,
 ) -> Result<Step<Dimen, Amount>, ScanFault>
     ensures { Follows amount_of dimen_left (fed token.now context.now)
-        (dimen_left (record { manner = manner; piece = Piece.UnitRegister factor register number })) result }
+        (dimen_left (at manner (Piece.UnitRegister factor register number))) result }
 {
     match number.feed(token, context) {
         Ok(Step::Further(number)) => Ok(Step::Further(Dimen {

@@ -3,7 +3,8 @@
 ghost use Rattle.std.specs.Prelude.{◌≡◌, List};
 ghost use Rattle.scan_numbers.specs.Tokens.{FedToken, fed};
 ghost use Rattle.scan_numbers.specs.Integers.{integer as an_integer, signed as the_signed};
-ghost use Rattle.scan_numbers.specs.Machines.{Follows, Reads, FormIs, outward as the_outward, whole_integer, integer_left, value_of};
+ghost use Rattle.scan_numbers.specs.Machines.{Follows, Reads, FormIs, outward as the_outward};
+ghost use Rattle.scan_numbers.specs.Machines.{whole_integer, integer_left, value_of};
 ghost use Rattle.scan_numbers.specs.declared.step.Step.TheVariants.{Further};
 
 use crate::constant::Constant;

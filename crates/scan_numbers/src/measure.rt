@@ -1,8 +1,10 @@
 //! Factors and units.
 
 ghost use Rattle.std.specs.Prelude.{◌≡◌, ◌^◌, ◌<◌, ◌≤◌, ◌*◌, ◌+◌, pos, unsigned_abs, false};
-ghost use Rattle.scan_numbers.specs.Fonts.{facts_at, font_unit as the_font_unit, japanese_slot as the_japanese_slot};
-ghost use Rattle.scan_numbers.specs.Dimensions.{points as the_points, times as the_times, measured as the_measured, of_measure, factor};
+ghost use Rattle.scan_numbers.specs.Fonts.{facts_at, font_unit as the_font_unit};
+ghost use Rattle.scan_numbers.specs.Fonts.{japanese_slot as the_japanese_slot};
+ghost use Rattle.scan_numbers.specs.Dimensions.{points as the_points, times as the_times};
+ghost use Rattle.scan_numbers.specs.Dimensions.{measured as the_measured, of_measure, factor};
 ghost use Rattle.scan_numbers.specs.Quantities.{integer_of as the_integer_of};
 
 use crate::context::Context;

@@ -1,7 +1,8 @@
 //! The primitives that are internal quantities.
 
 ghost use Rattle.std.specs.Prelude.{◌≡◌};
-ghost use Rattle.scan_numbers.specs.Primitives.{place_of as the_place_of, named_int, named_dim, named_glue, named_register};
+ghost use Rattle.scan_numbers.specs.Primitives.{place_of as the_place_of, named_int, named_dim};
+ghost use Rattle.scan_numbers.specs.Primitives.{named_glue, named_register};
 
 use crate::quantity::{CodeKind, Register};
 use box_tree::Side;

@@ -4,7 +4,16 @@ ghost use Rattle.std.specs.Prelude.{◌≡◌};
 ghost use Rattle.env_groups.specs.Bounds.{IsInt, HasSetDimens};
 ghost use Rattle.env_groups.specs.Environments.{code_at};
 ghost use Rattle.box_tree.specs.Bounds.{IsDimen};
-ghost use Rattle.scan_numbers.specs.Quantities.{integer_of as the_integer_of, is_negative as it_is_negative, held_glue, int_held as the_int_held, dim_held as the_dim_held, glue_held as the_glue_held, code_held as the_code_held, box_held as the_box_held, measure_of as the_measure_of, bounded as the_bounded, all_bounded, narrowed, held as the_held, reading, range_of, code_key as the_code_key, char_of as the_char_of};
+ghost use Rattle.scan_numbers.specs.Quantities.{integer_of as the_integer_of};
+ghost use Rattle.scan_numbers.specs.Quantities.{is_negative as it_is_negative, held_glue};
+ghost use Rattle.scan_numbers.specs.Quantities.{int_held as the_int_held, dim_held as the_dim_held};
+ghost use Rattle.scan_numbers.specs.Quantities.{glue_held as the_glue_held};
+ghost use Rattle.scan_numbers.specs.Quantities.{code_held as the_code_held};
+ghost use Rattle.scan_numbers.specs.Quantities.{box_held as the_box_held};
+ghost use Rattle.scan_numbers.specs.Quantities.{measure_of as the_measure_of};
+ghost use Rattle.scan_numbers.specs.Quantities.{bounded as the_bounded, all_bounded, narrowed};
+ghost use Rattle.scan_numbers.specs.Quantities.{held as the_held, reading, range_of};
+ghost use Rattle.scan_numbers.specs.Quantities.{code_key as the_code_key, char_of as the_char_of};
 
 use crate::context::Context;
 use crate::fault::ScanKind;

@@ -2,7 +2,15 @@
 
 ghost use Rattle.std.specs.Prelude.{◌≡◌, ◌+◌, ◌*◌, ◌<◌, min, IfSome, slice_get};
 ghost use Rattle.scan_numbers.specs.Keywords.{is_letter as it_is_letter};
-ghost use Rattle.scan_numbers.specs.Tokens.{start as the_start, digit as the_digit, base as the_base, character as the_character, is_space as it_is_space, letter as the_letter, meant as the_meant, place_start as the_place_start, whole_start as the_whole_start, letter_start as the_letter_start, code_start as the_code_start, char_code as the_char_code, only as the_only, spelt as the_spelt};
+ghost use Rattle.scan_numbers.specs.Tokens.{start as the_start, digit as the_digit};
+ghost use Rattle.scan_numbers.specs.Tokens.{base as the_base, character as the_character};
+ghost use Rattle.scan_numbers.specs.Tokens.{is_space as it_is_space, letter as the_letter};
+ghost use Rattle.scan_numbers.specs.Tokens.{meant as the_meant, place_start as the_place_start};
+ghost use Rattle.scan_numbers.specs.Tokens.{whole_start as the_whole_start};
+ghost use Rattle.scan_numbers.specs.Tokens.{letter_start as the_letter_start};
+ghost use Rattle.scan_numbers.specs.Tokens.{code_start as the_code_start};
+ghost use Rattle.scan_numbers.specs.Tokens.{char_code as the_char_code, only as the_only};
+ghost use Rattle.scan_numbers.specs.Tokens.{spelt as the_spelt};
 
 use crate::context::Context;
 use crate::fault::ScanKind;

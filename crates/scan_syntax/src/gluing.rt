@@ -3,8 +3,11 @@
 ghost use Rattle.std.specs.Prelude.{◌≡◌, ◌∷◌, [], List, true, pos};
 ghost use Rattle.scan_numbers.specs.Tokens.{FedToken, fed, put_back, start as the_start};
 ghost use Rattle.scan_numbers.specs.Amounts.{Amount as TheAmount};
-ghost use Rattle.scan_syntax.specs.Glues.{glue_of as the_glue_of, signed_glue as the_signed_glue, nothing as the_nothing};
-ghost use Rattle.scan_syntax.specs.Gluing.{glue_scanned, size_scanned, GlueMoves, late_left, glue_left, quantity_glue_left, then_stretch, is_number, begins_width};
+ghost use Rattle.scan_syntax.specs.Glues.{glue_of as the_glue_of, signed_glue as the_signed_glue};
+ghost use Rattle.scan_syntax.specs.Glues.{nothing as the_nothing};
+ghost use Rattle.scan_syntax.specs.Gluing.{glue_scanned, size_scanned, GlueMoves, late_left};
+ghost use Rattle.scan_syntax.specs.Gluing.{glue_left, quantity_glue_left, then_stretch, is_number};
+ghost use Rattle.scan_syntax.specs.Gluing.{begins_width};
 ghost use Rattle.scan_numbers.specs.Integers.{signed};
 ghost use Rattle.ts_geometry.specs.Directions.{sp};
 ghost use Rattle.scan_numbers.specs.Machines.{Follows, FormIs, amount_of, dimen_left};

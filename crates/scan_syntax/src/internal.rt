@@ -2,7 +2,11 @@
 
 ghost use Rattle.std.specs.Prelude.{◌≡◌, true};
 ghost use Rattle.scan_numbers.specs.Tokens.{FedToken, fed, start as the_start};
-ghost use Rattle.scan_syntax.specs.Internals.{internal as an_internal, quantity_value as the_quantity_value, toks_held as the_toks_held, toks_reading, toks_start as the_toks_start, toks_meant as the_toks_meant, toks_named};
+ghost use Rattle.scan_syntax.specs.Internals.{internal as an_internal};
+ghost use Rattle.scan_syntax.specs.Internals.{quantity_value as the_quantity_value};
+ghost use Rattle.scan_syntax.specs.Internals.{toks_held as the_toks_held, toks_reading};
+ghost use Rattle.scan_syntax.specs.Internals.{toks_start as the_toks_start};
+ghost use Rattle.scan_syntax.specs.Internals.{toks_meant as the_toks_meant, toks_named};
 ghost use Rattle.scan_syntax.specs.Internalizing.{internal_left, same_value, begins_none};
 ghost use Rattle.scan_numbers.specs.Machines.{Follows, FormIs};
 

@@ -35,7 +35,8 @@ impl Keyword {
 
     #[tactic(auto, using(crate::proofs::Attempts::fresh, std::proofs::lemmas::Grind::common_steps))]
     pub(crate) fn new(alloc: Global, word: Sought) -> Keyword
-        ensures { (list : List FedToken) → keyword_left result list ≡ a_keyword (letters_of word) list }
+        ensures { (list : List FedToken)
+            → keyword_left result list ≡ a_keyword (letters_of word) list }
     {
         Keyword {
             word,
@@ -60,7 +61,8 @@ impl Keyword {
     // A token that is the next letter or isn't.
     #[tactic(auto, using(crate::proofs::Attempts::attempts, std::proofs::lemmas::Grind::common_steps))]
     fn attempt(mut self, token: &Token, context: &Context<'_>) -> Result<Attempt, ScanFault>
-        ensures { Attempts (fed token.now context.now) (within_left self.matched.items (letters_of self.word)) result }
+        ensures { Attempts (fed token.now context.now)
+            (within_left self.matched.items (letters_of self.word)) result }
     {
         let letters = self.word.letters();
         let count = self.matched.len();

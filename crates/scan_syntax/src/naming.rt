@@ -2,7 +2,8 @@
 
 ghost use Rattle.std.specs.Prelude.{◌≡◌, List};
 ghost use Rattle.scan_numbers.specs.Tokens.{FedToken, fed};
-ghost use Rattle.scan_syntax.specs.FileNames.{file_name as a_file_name, name_byte as the_name_byte, ends_name as it_ends_name};
+ghost use Rattle.scan_syntax.specs.FileNames.{file_name as a_file_name, name_byte as the_name_byte};
+ghost use Rattle.scan_syntax.specs.FileNames.{ends_name as it_ends_name};
 ghost use Rattle.scan_numbers.specs.Machines.{Follows};
 ghost use Rattle.scan_syntax.specs.Naming.{naming_left, begun_left, same_name};
 
