@@ -1,2 +1,5 @@
 pub mod Faults
 pub mod Runs
+pub mod Kinds
+pub mod Limbs
+pub mod Skipping

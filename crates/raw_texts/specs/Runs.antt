@@ -8,6 +8,7 @@ use Rattle.env_groups.specs.Environments.{Nest, codes_of}
 use Rattle.mouth.specs.declared.fault.MouthFault.TheVariants.{NoMemory}
 use Rattle.mouth.specs.Reading.{Reading, Stop}
 use Rattle.mouth.specs.Tokens.{next_plain}
+use Rattle.mouth.specs.Changes.{entered, left}
 use Rattle.mouth.specs.Sizes.{unread}
 use Rattle.mouth.specs.Keeping.{MouthView, numbers, AreOpen, AreTold, LeavesOthers}
 use Rattle.raw_texts.specs.declared.fault.MacroFault.{MacroFault}
@@ -50,3 +51,7 @@ pub record Leaves (old : MouthView) (before : FilesState) (new : MouthView) (aft
   pub others : LeavesOthers (numbers old) before (numbers new) after
   pub names : Grew old.names new.names
   pub units : new.units ≡ old.units
+
+-- the same where no file may end before it is done
+abbrev pub run_inside : {S : Type 0} → Nest → (Nest → Step S) → S → Reading → Result (S × Reading) (Stop MacroFault)
+run_inside nest step s r = run nest step s (entered r) >>= λ p. Ok (p.0, left p.1)
