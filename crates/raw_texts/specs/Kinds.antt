@@ -3,24 +3,24 @@
 use Rattle.std.specs.Prelude.{ℕ, ◌==◌, Bool, false, if◌then◌else◌}
 use Rattle.tok_lists.specs.declared.token.Token.{Token}
 use Rattle.tok_lists.specs.declared.token.Token.TheVariants as tokens
-use Rattle.raw_texts.specs.declared.token.TokenKind.{TokenKind}
-use Rattle.raw_texts.specs.declared.token.TokenKind.TheVariants.{BeginGroup, EndGroup, Parameter, Space, Other}
+use Rattle.raw_texts.specs.declared.token.Brace.{Brace}
+use Rattle.raw_texts.specs.declared.token.Brace.TheVariants.{Begin, End, Neither}
 
 -- a character of a category
-abbrev pub kind_of_category : ℕ → TokenKind
-kind_of_category cat =
-    if cat == 1 then BeginGroup
-    else (if cat == 2 then EndGroup
-    else (if cat == 6 then Parameter
-    else (if cat == 10 then Space
-    else Other)))
+abbrev pub is_category : ℕ → Token → Bool
+is_category wanted (tokens.Char code cat) = cat == wanted
+is_category wanted (tokens.Ja cell) = false
+is_category wanted (tokens.Name name) = false
+is_category wanted (tokens.Kept name) = false
+is_category wanted (tokens.Param n) = false
 
-abbrev pub kind_of : Token → TokenKind
-kind_of (tokens.Char code cat) = kind_of_category cat
-kind_of (tokens.Ja cell) = Other
-kind_of (tokens.Name name) = Other
-kind_of (tokens.Kept name) = Other
-kind_of (tokens.Param n) = Other
+-- a character of category 1 or 2
+abbrev pub brace_of : Token → Brace
+brace_of (tokens.Char code cat) = if cat == 1 then Begin else (if cat == 2 then End else Neither)
+brace_of (tokens.Ja cell) = Neither
+brace_of (tokens.Name name) = Neither
+brace_of (tokens.Kept name) = Neither
+brace_of (tokens.Param n) = Neither
 
 -- the number of the name \par, by its place among the names of the start
 abbrev pub par : ℕ

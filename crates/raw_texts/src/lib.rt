@@ -3,6 +3,7 @@
 #![tactic(auto)]
 
 mod fault;
+mod group;
 mod limb;
 mod machine;
 mod run;
@@ -11,9 +12,10 @@ mod text;
 mod token;
 
 pub use fault::MacroFault;
+pub use group::read_group;
 pub use limb::{Limb, limb_of};
 pub use machine::{Machine, Progress};
 pub use run::read_on;
 pub use skipping::{Ended, Until, skip_text};
 pub use text::read_text;
-pub use token::{PAR, TokenKind, is_par, kind_of};
+pub use token::{Brace, PAR, brace_of, is_par, is_parameter, is_space};

@@ -1,40 +1,50 @@
 //! What tokens are in texts that are read without expansion.
 
-ghost use Rattle.std.specs.Prelude.{◌≡◌, IsTrue};
-ghost use Rattle.raw_texts.specs.Kinds.{kind_of as the_kind_of, is_par as the_is_par};
+ghost use Rattle.std.specs.Prelude.{◌≡◌};
+ghost use Rattle.raw_texts.specs.Kinds.{brace_of as the_brace_of, is_category, is_par as the_is_par};
 
 use tok_lists::{NameNo, Token};
 
 /// The number of the name `\par`.
 pub const PAR: u32 = 72;
 
-/// What a token is where it isn't expanded. Only characters are braces, `#` and spaces, and not the
-/// names that mean them.
+/// The brace that a token is. Only characters are braces, and not the names that mean them.
 #[derive(Clone, Copy, Debug, PartialEq, Eq)]
-pub enum TokenKind {
-    BeginGroup,
-    EndGroup,
-    Parameter,
-    Space,
-    Other,
+pub enum Brace {
+    Begin,
+    End,
+    /// No brace.
+    Neither,
 }
 
-/// Returns the kind of a token, by its category.
-pub fn kind_of(token: Token) -> TokenKind
-    ensures { result ≡ the_kind_of token }
+/// Returns the brace that a token is, by its category.
+pub fn brace_of(token: &Token) -> Brace
+    ensures { result ≡ the_brace_of token.now }
 {
     match token {
-        Token::Char(_, 1) => TokenKind::BeginGroup,
-        Token::Char(_, 2) => TokenKind::EndGroup,
-        Token::Char(_, 6) => TokenKind::Parameter,
-        Token::Char(_, 10) => TokenKind::Space,
-        _ => TokenKind::Other,
+        Token::Char(_, 1) => Brace::Begin,
+        Token::Char(_, 2) => Brace::End,
+        _ => Brace::Neither,
     }
 }
 
-/// Returns whether a token is the name `\par`, whatever that name means.
-pub fn is_par(token: Token) -> bool
-    ensures { result ≡ the_is_par token }
+/// Returns whether a token is a character of category 6, as `#` is.
+pub fn is_parameter(token: &Token) -> bool
+    ensures { result ≡ is_category 6 token.now }
 {
-    token == Token::Name(NameNo(PAR))
+    matches!(token, Token::Char(_, 6))
+}
+
+/// Returns whether a token is a space: a character of category 10.
+pub fn is_space(token: &Token) -> bool
+    ensures { result ≡ is_category 10 token.now }
+{
+    matches!(token, Token::Char(_, 10))
+}
+
+/// Returns whether a token is the name `\par`, whatever that name means.
+pub fn is_par(token: &Token) -> bool
+    ensures { result ≡ the_is_par token.now }
+{
+    matches!(token, Token::Name(NameNo(PAR)))
 }
