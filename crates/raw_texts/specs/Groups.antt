@@ -37,6 +37,10 @@ taken g token braces.Neither = plain g token
 abbrev pub step : Nest → Group → Token → Answer
 step nest g token = taken g token (brace_of token)
 
+-- a group of which no token was taken
+abbrev pub empty : Bool → Group
+empty long = record { tokens = []; level = 0; long = long }
+
 -- the tokens of a group whose { was taken, and what is read after its }
 unfoldable pub group : Nest → Bool → Reading → Result (List Token × Reading) (Stop MacroFault)
-group nest long r = run nest step (record { tokens = []; level = 0; long = long }) r >>= λ p. Ok (p.0.tokens, p.1)
+group nest long r = run nest step (empty long) r >>= λ p. Ok (p.0.tokens, p.1)

@@ -3,6 +3,9 @@ pub mod Runs
 pub mod Kinds
 pub mod Limbs
 pub mod Skipping
+pub mod Meanings
 pub mod Holding
 pub mod StillHeld
 pub mod Groups
+pub mod Passing
+pub mod Braced

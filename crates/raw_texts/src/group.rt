@@ -8,7 +8,7 @@ ghost use Rattle.mouth.specs.Sizes.{unread, size};
 ghost use Rattle.raw_texts.specs.Faults.{macro_cause};
 ghost use Rattle.raw_texts.specs.Runs.{Leaves};
 ghost use Rattle.raw_texts.specs.Holding.{AreTokens};
-ghost use Rattle.raw_texts.specs.Groups.{group, kept, ended, plain};
+ghost use Rattle.raw_texts.specs.Groups.{empty, group, kept, ended, plain};
 
 use crate::fault::MacroFault;
 use crate::machine::{Machine, Progress};
@@ -31,6 +31,22 @@ pub(crate) struct Group {
 }
 
 impl Group {
+    pub(crate) fn new(alloc: Global, long: bool) -> Group
+        ensures { result ≡ empty long }
+    {
+        Group {
+            tokens: Tokens::new(alloc),
+            level: 0,
+            long,
+        }
+    }
+
+    pub(crate) fn tokens(&self) -> &[Token]
+        ensures { result.now ≡ self.now.tokens }
+    {
+        self.tokens.as_slice()
+    }
+
     #[tactic(auto, using(crate::proofs::Holding::tokens_last))]
     fn keep(&mut self, token: Token) -> Result<Progress, MacroFault>
         ensures exact { Agrees (λ progress. (progress, self.new)) macro_cause result
@@ -131,11 +147,7 @@ pub fn read_group<F: Files>(
     ensures counted { Counts macro_cause result (F.state files.old).faults
         (F.state files.new).faults }
 {
-    let mut group = Group {
-        tokens: Tokens::new(alloc),
-        level: 0,
-        long,
-    };
+    let mut group = Group::new(alloc, long);
     read_on(mouth, files, env, &mut group)?;
     Ok(group.tokens)
 }

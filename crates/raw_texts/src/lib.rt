@@ -2,19 +2,25 @@
 //! braces; and the machines by which they are read.
 #![tactic(auto)]
 
+mod braced;
 mod fault;
 mod group;
 mod limb;
 mod machine;
+mod meanings;
+mod passing;
 mod run;
 mod skipping;
 mod text;
 mod token;
 
+pub use braced::read_braced;
 pub use fault::MacroFault;
 pub use group::read_group;
 pub use limb::{Limb, limb_of};
 pub use machine::{Machine, Progress};
+pub use meanings::meaning_of;
+pub use passing::{Past, read_past};
 pub use run::read_on;
 pub use skipping::{Ended, Until, skip_text};
 pub use text::read_text;
