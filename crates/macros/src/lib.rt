@@ -1,0 +1,5 @@
+//! Macro calls and macro definitions (The TeXbook, chapter 20), as they are read without expansion.
+#![tactic(auto)]
+
+mod same;
+mod undelimited;
