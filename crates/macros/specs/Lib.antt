@@ -1,3 +1,4 @@
 pub mod Same
 pub mod Undelimited
 pub mod Matching
+pub mod Borders
