@@ -1,10 +1,10 @@
 -- How much of a delimiter ends a text, token by token.
-use Rattle.std.proofs.Common.{◌≡◌, ◌≢◌, ◌⊎◌, inl, inr, ℕ, zero, suc, ◌+◌, ◌-◌, ◌<◌, ◌≤◌, Bool, true, false, List, [], ◌∷◌, ◌++◌, length, take, drop, get_or, refl, sym, ap, ◌∙◌, subst, arith, cond, eqb, length-append, append_assoc}
+use Rattle.std.proofs.Common.{◌≡◌, ◌≢◌, ◌⊎◌, inl, inr, ℕ, zero, suc, ◌+◌, ◌-◌, ◌<◌, ◌≤◌, Bool, true, false, List, [], ◌∷◌, ◌++◌, length, take, drop, get_or, refl, sym, ap, ◌∙◌, subst, arith, cond, nat_le, length-append, append_assoc}
 use Rattle.std.specs.Prelude.{◌&&◌, ◌||◌, ◌==◌, if◌then◌else◌, not}
 use Rattle.std.specs.List.{list_any}
 use Rattle.std.specs.Cmp.Lexicographic.{pointwise, pointwise_decides}
-use Rattle.std.proofs.lemmas.Bool.{eqb-true, eqb-false}
-use Rattle.std.proofs.lemmas.List.{take-append-le, drop-append-le, drop-drop, take-append-drop, take-take, length-take-le, length-drop}
+use Rattle.std.proofs.lemmas.Bool.{eqb-true, eqb-false, leb-true, leb-false}
+use Rattle.std.proofs.lemmas.List.{take-append-le, drop-append-le, drop-drop, drop-take, take-append-drop, take-take, length-take-le, length-drop}
 use Rattle.std.proofs.lemmas.List.Folds.{list_any-append}
 use Rattle.std.proofs.Math.Seq.{take-suc, take-append-add}
 use Rattle.tok_lists.specs.declared.token.Token.{Token}
@@ -217,7 +217,7 @@ back_back few many text fewer most =
     let place : (length text - many) + (length (back many text) - few) ≡ length text - few = omega (arith, size) in
     drop-drop (length (back many text) - few) (length text - many) text ∙ ap (λ n. drop n text) place
 
-matched_within : (d text : List Token) → matched d text ≤ length text
+pub matched_within : (d text : List Token) → matched d text ≤ length text
 matched_within d text =
     let most = matched_most (length d) d text in
     let sizes : length (back (matched d text) text) ≡ length (take (matched d text) d) = ap length (matched_back d text) in
@@ -297,3 +297,40 @@ pub par_more : (d text : List Token) (t : Token) (m : ℕ) → m ≤ suc (matche
     → has_par (front m (text ++ t ∷ [])) ≡ (has_par (argument d text) || has_par (take (suc (matched d text) - m) (take (matched d text) d ++ t ∷ [])))
 par_more d text t m most =
     ap has_par (front_after d text t m most) ∙ list_any-append is_par (argument d text) (take (suc (matched d text) - m) (take (matched d text) d ++ t ∷ []))
+
+-- ---- slices of a delimiter
+
+pub border_slice : (d : List Token) (many few : ℕ) → few ≤ many → many ≤ length d → take (many - (many - few)) (drop (many - few) d) ≡ back few (take many d)
+border_slice d many few fewer most =
+    let one : many - (many - few) ≡ few = omega arith in
+    let two : (many - few) + few ≡ many = omega arith in
+    let three : many - few ≡ length (take many d) - few = ap (λ n. n - few) (sym (length-take-le many d most)) in
+    ap (λ n. take n (drop (many - few) d)) one ∙ sym (drop-take (many - few) few d)
+    ∙ ap (λ n. drop (many - few) (take n d)) two ∙ ap (λ n. drop n (take many d)) three
+
+-- A token that doesn't come after so many tokens may come after fewer.
+pub next_fewer : (d : List Token) (many few : ℕ) (t : Token) → few ≢ 0 → (is_border d many few && is_same t (get_or d few t)) ≡ false
+    → next_to d many t (suc few) ≡ next_to d many t (suc (few - 1))
+next_fewer d many few t some not_here =
+    let one : few ≡ suc (few - 1) = omega (arith, some) in
+    ap (λ b. cond b (suc few) (next_to d many t few)) not_here ∙ ap (next_to d many t) one
+
+-- At most one token more of the delimiter ends the text than before.
+pub next_within : (d text : List Token) (t : Token) → matched d (text ++ t ∷ []) ≤ suc (matched d text)
+unfolding Fits
+next_within d text t = at (nat_le (matched d (text ++ t ∷ [])) (suc (matched d text))) refl
+  where
+    never : (m : ℕ) → matched d (text ++ t ∷ []) ≡ m → suc (matched d text) < m → ⊥
+    never zero same more = absurd (omega arith)
+    never (suc k) same more =
+        let most = matched_most (length d) d (text ++ t ∷ []) in
+        let within : k < length d = omega (arith, most, same) in
+        let misfit = fits_more d text t k within ∙ ap (λ b. b && is_same t (get_or d k t)) (matched_not (length d) d text k (omega arith) (omega arith)) in
+        elim (matched_fits (length d) d (text ++ t ∷ [])) [
+            inl none ↦ absurd (omega (arith, none, same))
+          | inr fit ↦ let fits_so : fits d (text ++ t ∷ []) (suc k) ≡ true = ap (fits d (text ++ t ∷ [])) (sym same) ∙ fit in absurd cc
+          ]
+
+    at : (b : Bool) → nat_le (matched d (text ++ t ∷ [])) (suc (matched d text)) ≡ b → matched d (text ++ t ∷ []) ≤ suc (matched d text)
+    at true h = leb-true (matched d (text ++ t ∷ [])) (suc (matched d text)) h
+    at false h = let more = leb-false (matched d (text ++ t ∷ [])) (suc (matched d text)) h in absurd (never (matched d (text ++ t ∷ [])) refl (omega (arith, more)))

@@ -2,3 +2,4 @@ pub mod Same
 pub mod Undelimited
 pub mod Matching
 pub mod Borders
+pub mod Searches

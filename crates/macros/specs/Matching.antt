@@ -83,5 +83,6 @@ judged s token text =
     else (if is_extra s.text token then Err UseMismatch
     else Ok (On, with_text s text)))
 
+-- A search that ended takes no further token.
 abbrev pub step : Nest → Search → Token → Result (Progress × Search) MacroFault
-step nest s token = judged s token (s.text ++ token ∷ [])
+step nest s token = if is_ended s.delimiter s.text then Ok (Done, s) else judged s token (s.text ++ token ∷ [])

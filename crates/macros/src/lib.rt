@@ -1,5 +1,7 @@
 //! Macro calls and macro definitions (The TeXbook, chapter 20), as they are read without expansion.
 #![tactic(auto)]
 
+mod border;
+mod delimited;
 mod same;
 mod undelimited;
