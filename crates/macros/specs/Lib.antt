@@ -3,3 +3,4 @@ pub mod Undelimited
 pub mod Matching
 pub mod Borders
 pub mod Searches
+pub mod Delimited

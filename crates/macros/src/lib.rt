@@ -4,4 +4,5 @@
 mod border;
 mod delimited;
 mod same;
+mod stripping;
 mod undelimited;
