@@ -12,6 +12,9 @@ use Rattle.macros.proofs.Searching.{matched_most, matched_within, next_outside, 
 pub many_most : (s : Search) (groups many : ℕ) → IsSearch s groups many → many ≤ length s.delimiter
 many_most s groups many is = omega (arith, is.ends, matched_most (length s.delimiter) s.delimiter s.text)
 
+pub many_within : (s : Search) (groups many : ℕ) → IsSearch s groups many → many ≤ length s.text
+many_within s groups many is = omega (arith, is.ends, matched_within s.delimiter s.text)
+
 pub many_less : (s : Search) (groups many : ℕ) → IsSearch s groups many → is_ended s.delimiter s.text ≡ false → many < length s.delimiter
 many_less s groups many is going =
     let differs : matched s.delimiter s.text ≢ length s.delimiter = eqb-false (matched s.delimiter s.text) (length s.delimiter) going in

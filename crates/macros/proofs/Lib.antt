@@ -1,3 +1,5 @@
 pub mod Equal
 pub mod Searching
 pub mod Invariant
+pub mod Slices
+pub mod Prefixes

@@ -4,3 +4,4 @@ pub mod Matching
 pub mod Borders
 pub mod Searches
 pub mod Delimited
+pub mod Calls

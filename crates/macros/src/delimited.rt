@@ -8,10 +8,12 @@ ghost use Rattle.raw_texts.specs.Kinds.{brace_of as the_brace_of};
 ghost use Rattle.raw_texts.specs.Faults.{macro_cause};
 ghost use Rattle.raw_texts.specs.Holding.{AreTokens};
 ghost use Rattle.macros.specs.Matching.{matched, argument, has_par as the_has_par, with_text, judged, after_brace, is_ended, is_extra as the_extra};
+ghost use Rattle.macros.specs.Delimited.{stripped};
 ghost use Rattle.macros.specs.Borders.{IsDelimiter};
 ghost use Rattle.macros.specs.Searches.{search_for};
 
 use crate::border::{lets_par_in, next_match};
+use crate::stripping::stripped as without_braces;
 use env_groups::Env;
 use raw_texts::{Brace, MacroFault, Machine, Progress, brace_of};
 use std::alloc::Global;
@@ -87,6 +89,19 @@ impl Delimited {
         ensures { result.now ≡ self.now.delimiter }
     {
         &self.params.as_slice()[self.from..self.to]
+    }
+
+    /// Returns the argument: the text without what of the delimiter ends it, and without its
+    /// braces where it is one group.
+    #[tactic(auto, using(crate::proofs::Slices::stripped_tokens, crate::proofs::Slices::tokens_take))]
+    pub(crate) fn argument(&self, alloc: Global) -> Result<SharedTokens, NoMemory>
+        ensures value { IfOk result (λ tokens.
+            tokens ≡ stripped (argument self.now.delimiter self.now.text)) }
+        ensures tokens { (names : List Spelling) → AreTokens names self.now.text
+            → IfOk result (AreTokens names) }
+    {
+        let text = self.text.as_slice();
+        SharedTokens::new(alloc, without_braces(&text[..text.len() - self.many]))
     }
 
     // Whether the whole delimiter ends the text.

@@ -1,8 +1,10 @@
 //! Macro calls and macro definitions (The TeXbook, chapter 20), as they are read without expansion.
 #![tactic(auto)]
 
+mod argument;
 mod border;
 mod delimited;
+mod prefix;
 mod same;
 mod stripping;
 mod undelimited;
