@@ -3,3 +3,5 @@ pub mod Searching
 pub mod Invariant
 pub mod Slices
 pub mod Prefixes
+pub mod Pieces
+pub mod Gathering

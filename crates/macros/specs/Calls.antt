@@ -1,7 +1,9 @@
 -- A macro call (The TeXbook, chapter 20; TeX: The Program, sections 389 to 401): its parameter text is met token by token,
 -- and each parameter gets its argument.
-use Rattle.std.specs.Prelude.{if◌then◌else◌, Bool, List, [], ◌∷◌, Result, Ok, Err}
+use Rattle.std.specs.Prelude.{if◌then◌else◌, Bool, true, false, List, [], ◌∷◌, Result, Ok, Err}
 use Rattle.ts_base.specs.Agreement.{◌>>=◌}
+use Rattle.tok_lists.specs.declared.spelling.Spelling.{Spelling}
+use Rattle.tok_lists.specs.Pending.{AllHeld, HaveNoParam}
 use Rattle.tok_lists.specs.declared.token.Token.{Token}
 use Rattle.tok_lists.specs.declared.token.Token.TheVariants as tokens
 use Rattle.env_groups.specs.declared.meaning.MacroDef.{MacroDef}
@@ -45,6 +47,7 @@ pub record Parts : Type 0 where
 abbrev pub with_token : Token → Parts → Parts
 with_token token parts = record { prefix = token ∷ parts.prefix; delimiters = parts.delimiters }
 
+-- a parameter before the others
 abbrev pub with_param : Parts → Parts
 with_param parts = record { prefix = []; delimiters = parts.prefix ∷ parts.delimiters }
 
@@ -55,6 +58,14 @@ parts (tokens.Ja cell ∷ params) = with_token (tokens.Ja cell) (parts params)
 parts (tokens.Name name ∷ params) = with_token (tokens.Name name) (parts params)
 parts (tokens.Kept name ∷ params) = with_token (tokens.Kept name) (parts params)
 parts (tokens.Param n ∷ params) = with_param (parts params)
+
+-- a parameter
+abbrev pub is_param : Token → Bool
+is_param (tokens.Char code cat) = false
+is_param (tokens.Ja cell) = false
+is_param (tokens.Name name) = false
+is_param (tokens.Kept name) = false
+is_param (tokens.Param n) = true
 
 -- ---- the call
 
@@ -74,3 +85,8 @@ unfoldable pub call : Nest → MacroDef → Reading → Result (List (List Token
 call nest definition r =
     met nest (parts definition.params).prefix (entered r)
     >>= λ r. arguments_of nest definition.long (parts definition.params).delimiters r >>= λ a. Ok (a.0, left a.1)
+
+-- Arguments are of tokens as the mouth gives them.
+pub record AreArguments (names : List Spelling) (args : List (List Token)) : Type 0 where
+  pub held : AllHeld names args
+  pub no_param : HaveNoParam args

@@ -3,7 +3,9 @@
 
 mod argument;
 mod border;
+mod call;
 mod delimited;
+mod parts;
 mod prefix;
 mod same;
 mod stripping;
