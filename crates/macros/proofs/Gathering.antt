@@ -8,9 +8,11 @@ use Rattle.tok_lists.specs.declared.token.Token.{Token}
 use Rattle.tok_lists.specs.declared.token.Token.TheVariants.{Char, Ja, Name, Kept, Param}
 use Rattle.env_groups.specs.Environments.{Nest}
 use Rattle.env_groups.specs.Macros.{param_count}
-use Rattle.mouth.specs.Reading.{Reading, Stop}
+use Rattle.env_groups.specs.declared.meaning.MacroDef.{MacroDef}
+use Rattle.mouth.specs.Reading.{Reading, Stop, with_inside}
+use Rattle.mouth.specs.Changes.{entered, left}
 use Rattle.raw_texts.specs.declared.fault.MacroFault.{MacroFault}
-use Rattle.macros.specs.Calls.{Parts, parts, with_param, argument_of, arguments_of}
+use Rattle.macros.specs.Calls.{Parts, parts, with_param, met, argument_of, arguments_of, call}
 use Rattle.macros.specs.Borders.{AreNoBraces, IsDelimiter}
 
 abbrev Answer : Type 0
@@ -84,3 +86,15 @@ is_delimiter l from to plain most less =
       some = omega (arith, size);
       braces = subst AreNoBraces (sym same) (plain_drop from (take (from + (to - from - 1)) (take (length l - 1) l)) (plain_take (from + (to - from - 1)) (take (length l - 1) l) plain));
     }
+
+-- ---- a call
+
+left_again : (r : Reading) → left (entered r) ≡ r
+left_again r = let same : r.inside + 1 - 1 ≡ r.inside = omega arith in ap (with_inside r) same
+
+-- A call without parameter text takes nothing.
+pub call_none : (nest : Nest) (definition : MacroDef) (r : Reading) → definition.params ≡ [] → call nest definition r ≡ Ok ([], r)
+unfolding call
+call_none nest definition r none =
+    ap (λ (params : List Token). met nest (parts params).prefix (entered r) >>= λ r. arguments_of nest definition.long (parts params).delimiters r >>= λ a. Ok (a.0, left a.1)) none
+    ∙ ap (λ s. Ok ([], s)) (left_again r)

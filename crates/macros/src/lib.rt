@@ -10,3 +10,5 @@ mod prefix;
 mod same;
 mod stripping;
 mod undelimited;
+
+pub use call::read_call;
