@@ -5,3 +5,5 @@ pub mod Slices
 pub mod Prefixes
 pub mod Pieces
 pub mod Gathering
+pub mod Numbering
+pub mod Headed

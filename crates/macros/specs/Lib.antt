@@ -5,3 +5,5 @@ pub mod Borders
 pub mod Searches
 pub mod Delimited
 pub mod Calls
+pub mod Headings
+pub mod StillHeld

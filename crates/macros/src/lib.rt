@@ -5,6 +5,7 @@ mod argument;
 mod border;
 mod call;
 mod delimited;
+mod heading;
 mod parts;
 mod prefix;
 mod same;
@@ -12,3 +13,4 @@ mod stripping;
 mod undelimited;
 
 pub use call::read_call;
+pub use heading::{Heading, read_heading};
