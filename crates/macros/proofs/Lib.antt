@@ -7,3 +7,4 @@ pub mod Pieces
 pub mod Gathering
 pub mod Numbering
 pub mod Headed
+pub mod Bodied

@@ -6,4 +6,6 @@ pub mod Searches
 pub mod Delimited
 pub mod Calls
 pub mod Headings
+pub mod Bodies
+pub mod Definitions
 pub mod StillHeld

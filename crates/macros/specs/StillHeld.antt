@@ -4,6 +4,8 @@ use Rattle.tok_lists.specs.declared.spelling.Spelling.{Spelling}
 use Rattle.tok_lists.specs.declared.token.Token.{Token}
 use Rattle.tok_lists.specs.Names.{Grew}
 use Rattle.tok_lists.proofs.Growing.{held_still, all_held_still}
+use Rattle.macros.specs.declared.body.Body.{Body}
+use Rattle.macros.specs.Bodies.{IsBody}
 use Rattle.macros.specs.declared.heading.Heading.{Heading}
 use Rattle.macros.specs.Headings.{IsBegin, IsHeading}
 
@@ -20,3 +22,6 @@ heading_still old new h grew is = record {
   braces = is.braces;
   last = begin_still old new h.brace grew is.last;
 }
+
+pub body_still : (old new : List Spelling) (b : Body) → Grew old new → IsBody old b → IsBody new b
+body_still old new b grew is = record { text = heading_still old new b.heading grew is.text; held = all_held_still old new b.tokens grew is.held; within = is.within }

@@ -2,8 +2,10 @@
 #![tactic(auto)]
 
 mod argument;
+mod body;
 mod border;
 mod call;
+mod definition;
 mod delimited;
 mod heading;
 mod parts;
@@ -12,5 +14,7 @@ mod same;
 mod stripping;
 mod undelimited;
 
+pub use body::Body;
 pub use call::read_call;
+pub use definition::{macro_of, read_definition};
 pub use heading::{Heading, read_heading};
