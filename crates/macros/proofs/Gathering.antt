@@ -1,5 +1,5 @@
 -- Arguments that are gathered one after the other.
-use Rattle.std.proofs.Common.{◌≡◌, ◌<◌, ◌≤◌, ◌+◌, ◌-◌, ℕ, zero, suc, Bool, true, false, List, [], ◌∷◌, ◌++◌, length, take, drop, refl, sym, ap, ◌∙◌, subst, arith, append_assoc, append-nil, length-append, length-drop, Result, Ok, Err}
+use Rattle.std.proofs.Common.{◌≡◌, ◌<◌, ◌≤◌, ◌+◌, ◌-◌, ℕ, zero, suc, Bool, List, [], ◌∷◌, ◌++◌, length, take, drop, refl, sym, ap, ◌∙◌, subst, arith, append_assoc, length-drop, Result, Ok, Err}
 use Rattle.std.specs.Prelude.{slice_range}
 use Rattle.std.proofs.Math.Seq.{drop-length}
 use Rattle.std.proofs.lemmas.List.{take-take, drop-take, length-take-le}
@@ -80,8 +80,8 @@ is_delimiter l from to plain most less =
     let fewer : to - from - 1 ≤ to - from = omega arith in
     let short : from + (to - from - 1) ≤ length l - 1 = omega arith in
     let same : take (length (slice_range l from to) - 1) (slice_range l from to) ≡ drop from (take (from + (to - from - 1)) (take (length l - 1) l)) =
-        ap (λ k. take (k - 1) (slice_range l from to)) size ∙ take-take (to - from - 1) (to - from) (drop from l) fewer
-        ∙ sym (drop-take from (to - from - 1) l) ∙ ap (drop from) (sym (take-take (from + (to - from - 1)) (length l - 1) l short)) in
+    ap (λ k. take (k - 1) (slice_range l from to)) size ∙ take-take (to - from - 1) (to - from) (drop from l) fewer
+    ∙ sym (drop-take from (to - from - 1) l) ∙ ap (drop from) (sym (take-take (from + (to - from - 1)) (length l - 1) l short)) in
     record {
       some = omega (arith, size);
       braces = subst AreNoBraces (sym same) (plain_drop from (take (from + (to - from - 1)) (take (length l - 1) l)) (plain_take (from + (to - from - 1)) (take (length l - 1) l) plain));

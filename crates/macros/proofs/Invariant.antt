@@ -1,7 +1,7 @@
 -- What is true of a search, and stays so.
 use Rattle.std.proofs.Common.{◌≡◌, ◌≢◌, ℕ, zero, suc, ◌+◌, ◌-◌, ◌<◌, ◌≤◌, Bool, true, false, List, [], ◌∷◌, ◌++◌, length, take, refl, sym, ap, ◌∙◌, subst, arith}
-use Rattle.std.specs.Prelude.{◌&&◌, ◌||◌, ◌==◌, not}
-use Rattle.std.proofs.lemmas.Bool.{eqb-true, eqb-false}
+use Rattle.std.specs.Prelude.{◌&&◌, ◌||◌, not}
+use Rattle.std.proofs.lemmas.Bool.{eqb-false}
 use Rattle.tok_lists.specs.declared.token.Token.{Token}
 use Rattle.raw_texts.specs.Kinds.{brace_of}
 use Rattle.macros.specs.Matching.{Search, with_text, after_brace, depth, front, matched, argument, has_par, is_ended}
@@ -69,7 +69,6 @@ search_more s groups many t after m is deep same par = record {
   ends = same;
   par = par;
 }
-
 
 nothing_of : (n : ℕ) → has_par (take n []) ≡ false
 nothing_of zero = refl

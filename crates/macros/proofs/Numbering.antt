@@ -1,5 +1,5 @@
 -- Parameters that are numbered in order.
-use Rattle.std.proofs.Common.{◌≡◌, ◌≤◌, ◌+◌, ℕ, List, [], ◌∷◌, ◌++◌, refl, sym, ap, ◌∙◌, subst, arith}
+use Rattle.std.proofs.Common.{◌≡◌, ◌+◌, ℕ, List, [], ◌∷◌, ◌++◌, refl, ap, ◌∙◌, arith}
 use Rattle.tok_lists.specs.declared.spelling.Spelling.{Spelling}
 use Rattle.tok_lists.specs.declared.token.Token.{Token}
 use Rattle.tok_lists.specs.declared.token.Token.TheVariants.{Char, Ja, Name, Kept, Param}
@@ -8,7 +8,6 @@ use Rattle.tok_lists.proofs.Flat.{held_together}
 use Rattle.env_groups.specs.Macros.{param_count, AreNumberedFrom}
 use Rattle.raw_texts.specs.declared.token.Brace.TheVariants.{Neither}
 use Rattle.raw_texts.specs.Kinds.{brace_of}
-use Rattle.mouth.specs.Keeping.{IsToken}
 use Rattle.macros.specs.Borders.{AreNoBraces}
 
 pub held_last : (names : List Spelling) (l : List Token) (t : Token) → AreHeld names l → IsHeld names t → AreHeld names (l ++ t ∷ [])

@@ -1,10 +1,10 @@
 -- Tokens of a parameter text that are met one after the other.
-use Rattle.std.proofs.Common.{◌≡◌, ◌≢◌, ◌<◌, ◌≤◌, ◌+◌, ◌-◌, ℕ, zero, suc, Bool, true, false, List, [], ◌∷◌, length, take, drop, get_or, refl, sym, ap, ◌∙◌, subst, arith, drop-cons, add-one, Ok, Err, cond}
+use Rattle.std.proofs.Common.{◌≡◌, ◌≢◌, ◌<◌, ◌≤◌, ◌+◌, ◌-◌, ℕ, suc, true, false, List, [], ◌∷◌, length, take, drop, get_or, sym, ap, ◌∙◌, arith, drop-cons, add-one, Ok, Err, cond}
 use Rattle.std.specs.Prelude.{slice_range, Result}
 use Rattle.ts_base.specs.Agreement.{◌>>=◌}
 use Rattle.tok_lists.specs.declared.token.Token.{Token}
 use Rattle.env_groups.specs.Environments.{Nest}
-use Rattle.mouth.specs.Reading.{Reading, Stop}
+use Rattle.mouth.specs.Reading.{Reading}
 use Rattle.raw_texts.specs.declared.fault.MacroFault.{MacroFault}
 use Rattle.raw_texts.specs.declared.fault.MacroFault.TheVariants.{UseMismatch}
 use Rattle.raw_texts.specs.declared.machine.Progress.{Progress}

@@ -1,16 +1,12 @@
 -- How much of a delimiter ends a text, token by token.
 use Rattle.std.proofs.Common.{◌≡◌, ◌≢◌, ◌⊎◌, inl, inr, ℕ, zero, suc, ◌+◌, ◌-◌, ◌<◌, ◌≤◌, Bool, true, false, List, [], ◌∷◌, ◌++◌, length, take, drop, get_or, refl, sym, ap, ◌∙◌, subst, arith, cond, nat_le, length-append, append_assoc}
-use Rattle.std.specs.Prelude.{◌&&◌, ◌||◌, ◌==◌, if◌then◌else◌, not}
-use Rattle.std.specs.List.{list_any}
-use Rattle.std.specs.Cmp.Lexicographic.{pointwise, pointwise_decides}
+use Rattle.std.specs.Prelude.{◌&&◌, ◌||◌, ◌==◌}
 use Rattle.std.proofs.lemmas.Bool.{eqb-true, eqb-false, leb-true, leb-false}
 use Rattle.std.proofs.lemmas.List.{take-append-le, drop-append-le, drop-drop, drop-take, take-append-drop, take-take, length-take-le, length-drop}
 use Rattle.std.proofs.lemmas.List.Folds.{list_any-append}
 use Rattle.std.proofs.Math.Seq.{take-suc, take-append-add}
 use Rattle.tok_lists.specs.declared.token.Token.{Token}
 use Rattle.tok_lists.specs.declared.token.Token.TheVariants.{Char, Ja, Name, Kept, Param}
-use Rattle.raw_texts.specs.declared.token.Brace.{Brace}
-use Rattle.raw_texts.specs.declared.token.Brace.TheVariants.{Begin, End, Neither}
 use Rattle.raw_texts.specs.Kinds.{brace_of, is_par}
 use Rattle.macros.specs.Same.{is_same, are_same}
 use Rattle.macros.specs.Matching.{after_brace, depth_from, depth, front, back, fits, matched_to, matched, argument, has_par}
@@ -170,9 +166,9 @@ matched_not (suc n) d text k more most = chosen_not d text n (matched_to n d tex
 pub matched_back : (d text : List Token) → back (matched d text) text ≡ take (matched d text) d
 unfolding Fits
 matched_back d text = elim (matched_fits (length d) d text) [
-    inl none ↦ rw none (drop_all text)
+  | inl none ↦ rw none (drop_all text)
   | inr fit ↦ all_equal (back (matched d text) text) (take (matched d text) d) (both (are_same (back (matched d text) text) (take (matched d text) d)) (depth (front (matched d text) text) == 0) fit).0
-  ]
+]
   where
     drop_length : (l : List Token) → drop (length l) l ≡ []
     drop_length [] = refl
@@ -286,8 +282,8 @@ front_after d text t m most =
     let n = matched d text in
     let within = matched_within d text in
     let whole : text ++ t ∷ [] ≡ argument d text ++ (take n d ++ t ∷ []) =
-        ap (λ l. l ++ t ∷ []) (sym (take-append-drop (length text - n) text)) ∙ append_assoc (front n text) (back n text) (t ∷ [])
-        ∙ ap (λ l. front n text ++ (l ++ t ∷ [])) (matched_back d text) in
+    ap (λ l. l ++ t ∷ []) (sym (take-append-drop (length text - n) text)) ∙ append_assoc (front n text) (back n text) (t ∷ [])
+    ∙ ap (λ l. front n text ++ (l ++ t ∷ [])) (matched_back d text) in
     let size : length (argument d text) ≡ length text - n = length-take-le (length text - n) text (omega arith) in
     let many : length (text ++ t ∷ []) - m ≡ length (argument d text) + (suc n - m) = omega (arith, length-append text (t ∷ []), size, within) in
     ap (λ k. take k (text ++ t ∷ [])) many ∙ ap (λ l. take (length (argument d text) + (suc n - m)) l) whole
@@ -327,9 +323,9 @@ next_within d text t = at (nat_le (matched d (text ++ t ∷ [])) (suc (matched d
         let within : k < length d = omega (arith, most, same) in
         let misfit = fits_more d text t k within ∙ ap (λ b. b && is_same t (get_or d k t)) (matched_not (length d) d text k (omega arith) (omega arith)) in
         elim (matched_fits (length d) d (text ++ t ∷ [])) [
-            inl none ↦ absurd (omega (arith, none, same))
+          | inl none ↦ absurd (omega (arith, none, same))
           | inr fit ↦ let fits_so : fits d (text ++ t ∷ []) (suc k) ≡ true = ap (fits d (text ++ t ∷ [])) (sym same) ∙ fit in absurd cc
-          ]
+        ]
 
     at : (b : Bool) → nat_le (matched d (text ++ t ∷ [])) (suc (matched d text)) ≡ b → matched d (text ++ t ∷ []) ≤ suc (matched d text)
     at true h = leb-true (matched d (text ++ t ∷ [])) (suc (matched d text)) h

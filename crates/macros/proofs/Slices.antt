@@ -7,7 +7,6 @@ use Rattle.tok_lists.specs.Names.{AreHeld, HasNoParam}
 use Rattle.env_groups.specs.Environments.{Nest}
 use Rattle.mouth.specs.Reading.{Reading}
 use Rattle.raw_texts.specs.Holding.{AreTokens}
-use Rattle.macros.specs.Matching.{front}
 use Rattle.macros.specs.Delimited.{is_one_group, stripped, delimited}
 use Rattle.macros.specs.Undelimited.{undelimited}
 use Rattle.macros.specs.Calls.{argument_of}

@@ -1,5 +1,5 @@
 -- Macro definitions (The TeXbook, chapter 20; TeX: The Program, sections 473 to 479).
-use Rattle.std.specs.Prelude.{◌≤◌, ℕ, ◌-◌, false, List, [], ◌∷◌, ◌++◌, length, take, Option, Some, None, Result, Ok, Err}
+use Rattle.std.specs.Prelude.{◌-◌, false, List, [], ◌∷◌, ◌++◌, length, take, Option, Some, None, Result, Ok}
 use Rattle.ts_base.specs.Agreement.{◌>>=◌}
 use Rattle.tok_lists.specs.declared.spelling.Spelling.{Spelling}
 use Rattle.tok_lists.specs.declared.token.Token.{Token}

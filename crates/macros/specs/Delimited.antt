@@ -10,7 +10,7 @@ use Rattle.raw_texts.specs.declared.token.Brace.{Brace}
 use Rattle.raw_texts.specs.declared.token.Brace.TheVariants.{Begin, End, Neither}
 use Rattle.raw_texts.specs.Kinds.{brace_of}
 use Rattle.raw_texts.specs.Runs.{run}
-use Rattle.macros.specs.Matching.{Search, after_brace, argument, step}
+use Rattle.macros.specs.Matching.{after_brace, argument, step}
 
 -- With so many groups open before a list, the outermost of them is closed by its last token.
 abbrev pub closes_last : ℕ → List Token → Bool

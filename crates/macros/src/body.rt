@@ -13,7 +13,7 @@ ghost use Rattle.macros.specs.Headings.{IsHeading};
 
 use crate::heading::Heading;
 use env_groups::Env;
-use raw_texts::{Brace, MacroFault, Machine, Progress, brace_of, is_parameter};
+use raw_texts::{Brace, Machine, MacroFault, Progress, brace_of, is_parameter};
 use std::alloc::Global;
 use tok_lists::{Token, Tokens};
 use ts_base::NoMemory;

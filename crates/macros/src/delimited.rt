@@ -15,7 +15,7 @@ ghost use Rattle.macros.specs.Searches.{search_for};
 use crate::border::{lets_par_in, next_match};
 use crate::stripping::stripped as without_braces;
 use env_groups::Env;
-use raw_texts::{Brace, MacroFault, Machine, Progress, brace_of};
+use raw_texts::{Brace, Machine, MacroFault, Progress, brace_of};
 use std::alloc::Global;
 use std::marker::Model;
 use tok_lists::{SharedTokens, Token, Tokens};

@@ -13,7 +13,7 @@ ghost use Rattle.macros.specs.Headings.{heading, empty, is_digit as the_digit, i
 
 use env_groups::Env;
 use mouth::Mouth;
-use raw_texts::{Brace, MacroFault, Machine, Progress, brace_of, is_parameter, read_on};
+use raw_texts::{Brace, Machine, MacroFault, Progress, brace_of, is_parameter, read_on};
 use std::alloc::Global;
 use tok_lists::{Token, Tokens};
 use ts_outside::Files;

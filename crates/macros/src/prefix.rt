@@ -11,7 +11,7 @@ ghost use Rattle.macros.specs.Calls.{met};
 use crate::same::is_same;
 use env_groups::Env;
 use mouth::Mouth;
-use raw_texts::{MacroFault, Machine, Progress, read_on};
+use raw_texts::{Machine, MacroFault, Progress, read_on};
 use std::marker::Model;
 use tok_lists::{SharedTokens, Token};
 use ts_outside::Files;

@@ -1,8 +1,8 @@
 -- One call that reads tokens after another.
-use Rattle.std.proofs.Common.{◌≡◌, ◌∙◌}
+use Rattle.std.proofs.Common.{◌∙◌}
 use Rattle.ts_outside.specs.States.{FilesState}
-use Rattle.tok_lists.proofs.Growing.{grew_then, grew_itself}
-use Rattle.mouth.specs.Keeping.{MouthView, numbers, AreOpen}
+use Rattle.tok_lists.proofs.Growing.{grew_then}
+use Rattle.mouth.specs.Keeping.{MouthView, numbers}
 use Rattle.mouth.proofs.Leaving.{leaves_then}
 use Rattle.raw_texts.specs.Runs.{Leaves}
 

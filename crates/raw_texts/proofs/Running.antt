@@ -1,21 +1,17 @@
 -- Runs of a machine, token by token.
-use Rattle.std.proofs.Common.{◌≡◌, ◌<◌, ◌≤◌, ℕ, zero, suc, Result, Ok, Err, refl, sym, ap, ◌∙◌, arith}
+use Rattle.std.proofs.Common.{◌≡◌, ◌<◌, ◌≤◌, ℕ, zero, suc, Result, Ok, Err, refl, ap, ◌∙◌, arith}
 use Rattle.std.specs.Result.{IsErr, IsErrAnd}
 use mathlib.Core.Bool.{false≢true}
 use Rattle.ts_base.specs.Agreement.{Cause, Determined, Counted, Free, ◌>>=◌, with_fault, Agrees, AgreesFault}
 use Rattle.ts_base.proofs.Composing.{same_agrees}
 use Rattle.tok_lists.specs.declared.token.Token.{Token}
-use Rattle.tok_lists.specs.Codes.{Codes}
 use Rattle.env_groups.specs.Environments.{Nest, codes_of}
 use Rattle.mouth.specs.declared.fault.MouthFault.{MouthFault}
-use Rattle.mouth.specs.declared.fault.MouthFault.TheVariants.{NoMemory}
-use Rattle.mouth.specs.Reading.{Reading, Stop, at_place, place_of, stop_cause}
+use Rattle.mouth.specs.Reading.{Reading, Stop, at_place, stop_cause}
 use Rattle.mouth.specs.Tokens.{next, plain, next_plain}
 use Rattle.mouth.specs.Sizes.{unread}
 use Rattle.mouth.proofs.Falls.{token_unread}
 use Rattle.raw_texts.specs.declared.fault.MacroFault.{MacroFault}
-use Rattle.raw_texts.specs.declared.fault.MacroFault.TheVariants.{Mouth}
-use Rattle.raw_texts.specs.declared.machine.Progress.{Progress}
 use Rattle.raw_texts.specs.declared.machine.Progress.TheVariants.{On, Done}
 use Rattle.mouth.specs.declared.place.Place.{Place}
 use Rattle.raw_texts.specs.Faults.{macro_cause, of_mouth, stopped}

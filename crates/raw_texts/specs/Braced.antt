@@ -1,5 +1,5 @@
 -- Token lists in braces (The TeXbook, chapters 20 and 24; TeX: The Program, sections 403 and 473).
-use Rattle.std.specs.Prelude.{true, if◌then◌else◌, List, [], Result, Ok, Err}
+use Rattle.std.specs.Prelude.{true, if◌then◌else◌, List, Result, Ok, Err}
 use Rattle.ts_base.specs.Agreement.{◌>>=◌}
 use Rattle.tok_lists.specs.declared.token.Token.{Token}
 use Rattle.env_groups.specs.Environments.{Nest}

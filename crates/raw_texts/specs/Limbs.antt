@@ -1,5 +1,4 @@
 -- What opens, divides and closes conditionals (The TeXbook, chapter 20).
-use Rattle.std.specs.Prelude.{ℕ}
 use Rattle.tok_lists.specs.declared.token.Token.{Token}
 use Rattle.tok_lists.specs.declared.token.Token.TheVariants as tokens
 use Rattle.env_groups.specs.declared.prim.PrimitiveName.{PrimitiveName}

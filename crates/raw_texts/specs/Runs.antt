@@ -1,5 +1,5 @@
 -- Tokens that are read without expansion, one after the other, until what takes them has taken its last one.
-use Rattle.std.specs.Prelude.{◌≡◌, ◌<◌, ℕ, zero, suc, Result, Ok, Err}
+use Rattle.std.specs.Prelude.{◌≡◌, ℕ, zero, suc, Result, Ok, Err}
 use Rattle.ts_base.specs.Agreement.{◌>>=◌, with_fault}
 use Rattle.ts_outside.specs.States.{FilesState}
 use Rattle.tok_lists.specs.declared.token.Token.{Token}

@@ -1,4 +1,4 @@
-use Rattle.std.proofs.Common.{◌≡◌, ◌<◌, ◌≤◌, ◌+◌, ◌++◌, ◌∷◌, [], List, length, drop, arith, sym, ap, ◌∙◌, length-append}
+use Rattle.std.proofs.Common.{◌≡◌, ◌<◌, ◌+◌, ◌∷◌, [], List, length, drop, arith, sym, ap, ◌∙◌, length-append}
 use Rattle.std.specs.Prelude.{slice_range}
 use Rattle.ts_base.specs.Agreement.{◌>>=◌}
 use Rattle.tok_lists.specs.declared.token.Token.{Token}

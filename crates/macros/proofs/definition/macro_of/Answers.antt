@@ -1,4 +1,3 @@
-use Rattle.std.proofs.Common.{sym}
 use Rattle.macros.proofs.Bodied.{macro_is}
 use Rattle.macros.proofs.definition.macro_of.Goals as goal
 

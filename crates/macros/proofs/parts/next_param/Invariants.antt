@@ -1,4 +1,4 @@
-use Rattle.std.proofs.Common.{◌≤◌, ◌-◌, length}
+use Rattle.std.proofs.Common.{◌-◌, length}
 use Rattle.macros.proofs.Pieces.{IsAhead}
 use Rattle.macros.proofs.parts.next_param.Given as goal
 

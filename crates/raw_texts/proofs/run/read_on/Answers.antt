@@ -1,6 +1,6 @@
 use Rattle.std.proofs.Common.{arith, ◌∙◌}
 use Rattle.mouth.specs.Reading.{at_place, mouth_cause}
-use Rattle.mouth.specs.Keeping.{numbers, reading, place_in}
+use Rattle.mouth.specs.Keeping.{reading, place_in}
 use Rattle.raw_texts.proofs.Chains.{reads_then}
 use Rattle.raw_texts.specs.Faults.{macro_cause}
 use Rattle.raw_texts.specs.Runs.{run}

@@ -1,4 +1,3 @@
-use Rattle.std.proofs.Common.{[]}
 use Rattle.macros.proofs.Invariant.{search_begun}
 use Rattle.macros.proofs.delimited.Delimited.new.Goals as goal
 

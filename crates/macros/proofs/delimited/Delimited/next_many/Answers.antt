@@ -1,4 +1,4 @@
-use Rattle.std.proofs.Common.{ap, ◌∙◌, subst, arith}
+use Rattle.std.proofs.Common.{ap, ◌∙◌, subst}
 use Rattle.std.proofs.Common.{List}
 use Rattle.tok_lists.specs.declared.token.Token.{Token}
 use Rattle.macros.specs.Matching.{Search}

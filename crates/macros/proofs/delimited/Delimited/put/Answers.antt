@@ -1,6 +1,3 @@
-use Rattle.std.proofs.Common.{subst, ◌≡◌, ◌++◌, ◌∷◌, [], false}
-use Rattle.std.specs.Prelude.{◌&&◌, not}
-use Rattle.macros.specs.Matching.{Search, matched, argument, has_par}
 use Rattle.macros.proofs.Invariant.{search_more}
 use Rattle.macros.specs.contracts.delimited.Delimited.{the_view}
 use Rattle.macros.proofs.delimited.Delimited.put.Goals as goal

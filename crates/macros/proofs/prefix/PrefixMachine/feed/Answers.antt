@@ -1,4 +1,4 @@
-use Rattle.std.proofs.Common.{arith, sym, ◌≡◌, ◌<◌, get_or, true, false}
+use Rattle.std.proofs.Common.{arith, ◌≡◌, ◌<◌, true, false}
 use Rattle.macros.specs.Same.{is_same}
 use Rattle.macros.proofs.Prefixes.{prefix_refuses, prefix_ends, prefix_goes_on}
 use Rattle.macros.proofs.prefix.PrefixMachine.feed.Goals as goal
