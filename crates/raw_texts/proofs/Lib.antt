@@ -1,3 +1,4 @@
 pub mod Chains
 pub mod Running
 pub mod Holding
+pub mod Tellings

@@ -53,28 +53,28 @@ module _ {S : Type 0} (nest : Nest) (step : Nest → Step S) where
       let less = token_less nest r t is in
       bind_same (fed (step nest) s t) _ _ (λ p was. ap (goes_on p.0 (p.1, t.1)) (agree n (unread t.1) p.1 t.1 (omega (arith, less)) (omega arith))))
 
-  pub run-is : (s : S) (r : Reading)
+  pub run_is : (s : S) (r : Reading)
       → run nest step s r ≡ (token_from nest r >>= λ t. fed (step nest) s t >>= λ p. goes_on p.0 (p.1, t.1) (run nest step p.1 t.1))
   unfolding run
-  run-is s r = within (unread r) s r (omega arith)
+  run_is s r = within (unread r) s r (omega arith)
 
   -- A token is read and taken, and the machine goes on.
   pub run_on : (s s1 : S) (r r1 : Reading) (token : Token) → next_plain (codes_of nest) r ≡ Ok (token, r1) → step nest s token ≡ Ok (On, s1) → run nest step s r ≡ run nest step s1 r1
-  run_on s s1 r r1 token reads takes = run-is s r ∙ rw (reads, takes) refl
+  run_on s s1 r r1 token reads takes = run_is s r ∙ rw (reads, takes) refl
 
   -- A token is read and taken, and the machine is done.
   pub run_done : (s s1 : S) (r r1 : Reading) (token : Token) → next_plain (codes_of nest) r ≡ Ok (token, r1) → step nest s token ≡ Ok (Done, s1) → run nest step s r ≡ Ok (s1, r1)
-  run_done s s1 r r1 token reads takes = run-is s r ∙ rw (reads, takes) refl
+  run_done s s1 r r1 token reads takes = run_is s r ∙ rw (reads, takes) refl
 
   -- No token is read.
   pub run_unread : (cause : Cause) (s : S) (r : Reading) (e : Stop MouthFault) → AgreesFault cause e (next_plain (codes_of nest) r) → AgreesFault cause (of_mouth e) (run nest step s r)
-  run_unread Determined s r e reads = run-is s r ∙ rw reads refl
+  run_unread Determined s r e reads = run_is s r ∙ rw reads refl
   run_unread Counted s r e reads = tt
   run_unread Free s r e reads = tt
 
   -- The machine refuses a token.
   pub run_refused : (cause : Cause) (s : S) (r r1 : Reading) (token : Token) (e : MacroFault) → next_plain (codes_of nest) r ≡ Ok (token, r1) → AgreesFault cause e (step nest s token)
       → AgreesFault cause (stopped e r1) (run nest step s r)
-  run_refused Determined s r r1 token e reads takes = run-is s r ∙ rw (reads, takes) refl
+  run_refused Determined s r r1 token e reads takes = run_is s r ∙ rw (reads, takes) refl
   run_refused Counted s r r1 token e reads takes = tt
   run_refused Free s r r1 token e reads takes = tt
