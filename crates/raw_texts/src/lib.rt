@@ -13,6 +13,8 @@ mod naming;
 mod passing;
 mod run;
 mod skipping;
+#[cfg(test)]
+mod tests;
 mod text;
 mod token;
 
