@@ -1,15 +1,15 @@
 -- How much of a delimiter ends a text, token by token.
-use Rattle.std.proofs.Common.{◌≡◌, ◌≢◌, ◌⊎◌, inl, inr, ℕ, zero, suc, ◌+◌, ◌-◌, ◌<◌, ◌≤◌, Bool, true, false, List, [], ◌∷◌, ◌++◌, length, take, drop, get_or, refl, sym, ap, ◌∙◌, subst, arith, cond, nat_le, length-append, append_assoc}
+use Rattle.std.proofs.Common.{◌≡◌, ◌≢◌, ◌⊎◌, inl, inr, ℕ, zero, suc, ◌+◌, ◌-◌, ◌<◌, ◌≤◌, Bool, true, false, List, [], ◌∷◌, ◌++◌, length, take, drop, get_or, refl, sym, ap, ◌∙◌, subst, arith, cond, nat_le, length-append, append_assoc, eq-eqb}
 use Rattle.std.specs.Prelude.{◌&&◌, ◌||◌, ◌==◌}
 use Rattle.std.proofs.lemmas.Bool.{eqb-true, eqb-false, leb-true, leb-false}
 use Rattle.std.proofs.lemmas.List.{take-append-le, drop-append-le, drop-drop, drop-take, take-append-drop, take-take, length-take-le, length-drop}
 use Rattle.std.proofs.lemmas.List.Folds.{list_any-append}
-use Rattle.std.proofs.Math.Seq.{take-suc, take-append-add}
+use Rattle.std.proofs.Math.Seq.{take-suc, take-append-add, take-length, take-append_seam, drop-append_seam}
 use Rattle.tok_lists.specs.declared.token.Token.{Token}
 use Rattle.tok_lists.specs.declared.token.Token.TheVariants.{Char, Ja, Name, Kept, Param}
 use Rattle.raw_texts.specs.Kinds.{brace_of, is_par}
 use Rattle.macros.specs.Same.{is_same, are_same}
-use Rattle.macros.specs.Matching.{after_brace, depth_from, depth, front, back, fits, matched_to, matched, argument, has_par}
+use Rattle.macros.specs.Matching.{after_brace, depth_from, depth, front, back, fits, matched_to, matched, argument, has_par, is_ended}
 use Rattle.macros.specs.Borders.{is_border, next_to, next_match, AreNoBraces, IsDelimiter}
 
 -- ---- equal tokens
@@ -17,6 +17,10 @@ use Rattle.macros.specs.Borders.{is_border, next_to, next_match, AreNoBraces, Is
 both : (a b : Bool) → (a && b) ≡ true → (a ≡ true) × (b ≡ true)
 both true b h = (refl, h)
 both false b h = absurd cc
+
+two_true : (a b : Bool) → a ≡ true → b ≡ true → (a && b) ≡ true
+two_true true b h g = g
+two_true false b h g = absurd cc
 
 swapped : (a b c : Bool) → ((a && b) && c) ≡ ((a && c) && b)
 swapped true true c = elim c as (λ c. (true && c) ≡ (c && true)) [ true ↦ refl | false ↦ refl ]
@@ -330,3 +334,49 @@ next_within d text t = at (nat_le (matched d (text ++ t ∷ [])) (suc (matched d
     at : (b : Bool) → nat_le (matched d (text ++ t ∷ [])) (suc (matched d text)) ≡ b → matched d (text ++ t ∷ []) ≤ suc (matched d text)
     at true h = leb-true (matched d (text ++ t ∷ [])) (suc (matched d text)) h
     at false h = let more = leb-false (matched d (text ++ t ∷ [])) (suc (matched d text)) h in absurd (never (matched d (text ++ t ∷ [])) refl (omega (arith, more)))
+
+-- ---- where a delimiter ends a text
+
+all_of : (d text : List Token) → is_ended d text ≡ true → matched d text ≡ length d
+all_of d text is = eqb-true (matched d text) (length d) is
+
+pub ended_text : (d text : List Token) → 0 < length d → is_ended d text ≡ true → argument d text ++ d ≡ text
+ended_text d text some is =
+    let whole = all_of d text is in
+    let last : back (matched d text) text ≡ d = matched_back d text ∙ ap (λ n. take n d) whole ∙ take-length d in
+    ap (λ l. argument d text ++ l) (sym last) ∙ take-append-drop (length text - matched d text) text
+
+pub ended_groups : (d text : List Token) → 0 < length d → is_ended d text ≡ true → depth (argument d text) ≡ 0
+unfolding Fits
+ended_groups d text some is =
+    elim (matched_fits (length d) d text) [
+      | inl none ↦ let whole = all_of d text is in absurd (omega (arith, none, whole))
+      | inr fit ↦ zero_is (depth (front (matched d text) text)) (both (are_same (back (matched d text) text) (take (matched d text) d)) (depth (front (matched d text) text) == 0) fit).1
+    ]
+
+own_token : (a : Token) → is_same a a ≡ true
+own_token (Char c k) = two_true (c == c) (k == k) (eq-eqb c c refl) (eq-eqb k k refl)
+own_token (Ja c) = two_true (c.row == c.row) (c.cell == c.cell) (eq-eqb c.row c.row refl) (eq-eqb c.cell c.cell refl)
+own_token (Name c) = eq-eqb c.0 c.0 refl
+own_token (Kept c) = eq-eqb c.0 c.0 refl
+own_token (Param c) = eq-eqb c c refl
+
+own_list : (l : List Token) → are_same l l ≡ true
+own_list [] = refl
+own_list (t ∷ l) = two_true (is_same t t) (are_same l l) (own_token t) (own_list l)
+
+whole_first : (n : ℕ) (d text : List Token) → length d ≡ n → fits d text n ≡ true → matched_to n d text ≡ n
+whole_first zero d text size fit = refl
+whole_first (suc n) d text size fit = ap (λ c. cond c (suc n) (matched_to n d text)) fit
+
+pub ended_there : (d front_text : List Token) → depth front_text ≡ 0 → is_ended d (front_text ++ d) ≡ true
+ended_there d l none =
+    let n = length d in
+    let text = l ++ d in
+    let size : length text - n ≡ length l = omega (arith, length-append l d) in
+    let last : back n text ≡ d = ap (λ k. drop k text) size ∙ drop-append_seam l d in
+    let first : front n text ≡ l = ap (λ k. take k text) size ∙ take-append_seam l d in
+    let same : are_same (back n text) (take n d) ≡ true = ap (λ k. are_same k (take n d)) last ∙ ap (are_same d) (take-length d) ∙ own_list d in
+    let closed : (depth (front n text) == 0) ≡ true = ap (λ k. depth k == 0) first ∙ zero_test (depth l) none in
+    let fit : fits d text n ≡ true = two_true (are_same (back n text) (take n d)) (depth (front n text) == 0) same closed in
+    ap (λ k. k == n) (whole_first n d text refl fit) ∙ eq-eqb n n refl

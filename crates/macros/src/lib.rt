@@ -8,13 +8,17 @@ mod call;
 mod definition;
 mod delimited;
 mod heading;
+mod laws;
 mod parts;
 mod prefix;
 mod same;
 mod stripping;
+#[cfg(test)]
+mod tests;
 mod undelimited;
 
 pub use body::Body;
 pub use call::read_call;
 pub use definition::{macro_of, read_definition};
 pub use heading::{Heading, read_heading};
+pub use laws::an_argument_is_the_shortest;
