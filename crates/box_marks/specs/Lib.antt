@@ -1,0 +1,5 @@
+pub mod Placing
+pub mod Marks
+pub mod Glyphs
+pub mod Bounds
+pub mod Laws
