@@ -1,0 +1,4 @@
+pub mod Numbers
+pub mod Says
+pub mod Puts
+pub mod Said

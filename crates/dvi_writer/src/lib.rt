@@ -1,0 +1,10 @@
+//! Boxes as the pages of a DVI file.
+#![tactic(auto)]
+
+mod fault;
+mod hand;
+mod opcode;
+mod pen;
+mod put;
+
+pub use fault::WriteFault;
