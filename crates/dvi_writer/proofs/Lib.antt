@@ -2,3 +2,4 @@ pub mod Numbers
 pub mod Says
 pub mod Puts
 pub mod Said
+pub mod Walks

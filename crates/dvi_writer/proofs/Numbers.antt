@@ -8,8 +8,7 @@ use Rattle.std.proofs.Math.Arith.{mod-mul}
 use Rattle.std.proofs.lemmas.Int.{ints}
 use Rattle.std.proofs.lemmas.List.{append-nil, take-append-le, drop-append-le, take_all, drop_all}
 use Rattle.std.proofs.lemmas.Bool.{le-ltb}
-use Rattle.ts_base.specs.Agreement.{◌>>=◌}
-use Rattle.dvi_commands.specs.Fields.{Field, text, value_after, unsigned, with_sign, signed}
+use Rattle.dvi_commands.specs.Fields.{text, value_after, unsigned, with_sign, signed}
 use Rattle.dvi_commands.specs.Spelling.{four}
 
 -- ---- numbers

@@ -1,6 +1,6 @@
 -- One glyph or rule that is written.
-use Rattle.std.proofs.Common.{◌≡◌, ℕ, List, [], ◌∷◌, ◌++◌, refl, sym, ap, arith, ℤ, pos, Bool, true, false, subst}
-use Rattle.std.specs.Prelude.{neg_ℤ, ◌≤ℤ◌, int_le, ◌&&◌}
+use Rattle.std.proofs.Common.{◌≡◌, [], ◌∷◌, refl, arith, pos, Bool, true, false, subst}
+use Rattle.std.specs.Prelude.{◌&&◌}
 use Rattle.std.proofs.lemmas.Int.{ints}
 use Rattle.std.proofs.lemmas.List.{append-nil}
 use Rattle.ts_geometry.specs.declared.direction.Dir.{Dir}
@@ -14,7 +14,6 @@ use Rattle.box_marks.specs.Bounds.{IsSoundPiece}
 use Rattle.box_marks.specs.declared.placed.Piece.{Piece}
 use Rattle.box_marks.specs.declared.placed.Piece.TheVariants.{Glyph, Rule}
 use Rattle.box_marks.specs.declared.placed.Placed.{Placed}
-use Rattle.dvi_commands.specs.Commands.{Command}
 use Rattle.dvi_writer.specs.declared.hand.Hand.{Hand}
 use Rattle.dvi_writer.specs.declared.pen.Pen.{Pen}
 use Rattle.dvi_writer.specs.Saying.{said, after, width_of, is_on_page, is_short, fits, most_coordinate, IsOnPage, IsInReach}

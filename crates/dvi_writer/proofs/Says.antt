@@ -1,14 +1,13 @@
 -- What the bytes of the commands of a page say.
-use Rattle.std.proofs.Common.{◌≡◌, ℕ, ◌^◌, ◌<◌, List, [], ◌∷◌, ◌++◌, Ok, refl, ap, arith, ℤ, pos, true}
+use Rattle.std.proofs.Common.{◌≡◌, ℕ, ◌^◌, ◌<◌, [], ◌∷◌, ◌++◌, Ok, refl, ap, arith, ℤ, pos, true}
 use Rattle.std.specs.Prelude.{nat_le}
 use Rattle.std.specs.Int.{w32, bytes_high_first}
 use Rattle.std.specs.Int.RustNames.{FitsSigned}
 use Rattle.ts_base.specs.Agreement.{◌>>=◌}
 use Rattle.ts_geometry.specs.declared.direction.Dir.{Dir}
-use Rattle.ts_geometry.specs.declared.direction.Dir.TheVariants.{Yoko, Tate, Dtou}
 use Rattle.dvi_commands.specs.Commands as c
 use Rattle.dvi_commands.specs.Commands.{command, command_after, mark_after, right_after, down_after, font_after, file_after}
-use Rattle.dvi_commands.specs.Fields.{Field, unsigned, with_sign, signed, font_number}
+use Rattle.dvi_commands.specs.Fields.{Field, with_sign, font_number}
 use Rattle.dvi_commands.specs.Spelling.{four}
 use Rattle.dvi_writer.specs.Saying.{number_of}
 use Rattle.dvi_writer.proofs.Numbers.{unsigned_one, unsigned_alone, signed_alone, signed-again, signed_short}

@@ -6,5 +6,6 @@ mod hand;
 mod opcode;
 mod pen;
 mod put;
+mod walk;
 
 pub use fault::WriteFault;
