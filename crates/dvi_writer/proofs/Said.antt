@@ -17,7 +17,7 @@ use Rattle.box_marks.specs.declared.placed.Placed.{Placed}
 use Rattle.dvi_writer.specs.declared.hand.Hand.{Hand}
 use Rattle.dvi_writer.specs.declared.pen.Pen.{Pen}
 use Rattle.dvi_writer.specs.Saying.{said, after, width_of, is_on_page, is_short, fits, most_coordinate, IsOnPage, IsInReach}
-use Rattle.dvi_writer.specs.Wrote.{Wrote, Writes}
+use Rattle.dvi_writer.specs.Wrote.{Wrote, Writes, HasByte}
 
 -- ---- what fits
 
@@ -58,12 +58,12 @@ step_near p Dtou width on d = record { x = (omega (arith, ints, on.x), omega (ar
 pub after_near : (h : Hand) (p : Placed) → fits p ≡ true → IsSoundPiece p.piece → IsInReach (after h p).at
 after_near h p e s = step_near p.at p.dir (width_of p.piece) (on_page p e) (width_sound p.piece s)
 
-pub writes_one : (old new : Pen) (p : Placed) → Wrote old.out.items new.out.items (said old.hand p) → new.hand ≡ after old.hand p → fits p ≡ true → IsSoundPiece p.piece
+pub writes_one : (old new : Pen) (p : Placed) → Wrote old.out.items new.out.items (said old.hand p) → new.hand ≡ after old.hand p → fits p ≡ true → IsSoundPiece p.piece → HasByte p.piece
     → Writes old new (p ∷ [])
-writes_one old new p w e f s = record {
+writes_one old new p w e f s b = record {
   wrote = rw (append-nil (said old.hand p)) w;
   hand = e;
   fit = rw f refl;
-  sound = (s, tt);
+  sound = (s, (b, tt));
   near = rw e (after_near old.hand p f s);
 }

@@ -55,7 +55,7 @@ fit_join (p ∷ ps) qs = ap (λ (b : Bool). fits p && b) (fit_join ps qs) ∙ sy
 
 sound_join : (ps qs : List Placed) → PiecesAreSound ps → PiecesAreSound qs → PiecesAreSound (ps ++ qs)
 sound_join [] qs s t = t
-sound_join (p ∷ ps) qs s t = (s.0, sound_join ps qs s.1 t)
+sound_join (p ∷ ps) qs s t = (s.0, (s.1.0, sound_join ps qs s.1.1 t))
 
 pub writes_none : (pen : Pen) → IsInReach pen.hand.at → Writes pen pen []
 writes_none pen near = record { wrote = wrote_none pen.out.items; hand = refl; fit = refl; sound = tt; near = near }

@@ -1,7 +1,9 @@
 -- Bytes that were put, and the commands that they say.
-use Rattle.std.specs.Prelude.{◌≡◌, ℕ, ◌*◌, ◌≤◌, List, [], ◌∷◌, ◌++◌, length, true, false}
+use Rattle.std.specs.Prelude.{◌≡◌, ℕ, ◌*◌, ◌<◌, ◌≤◌, List, [], ◌∷◌, ◌++◌, length, true, false}
 use Rattle.dvi_commands.specs.Commands.{Command}
 use Rattle.dvi_commands.specs.Spelling.{Spells}
+use Rattle.box_marks.specs.declared.placed.Piece.{Piece}
+use Rattle.box_marks.specs.declared.placed.Piece.TheVariants.{Glyph, Rule}
 use Rattle.box_marks.specs.declared.placed.Placed.{Placed}
 use Rattle.box_marks.specs.Bounds.{IsSoundPiece}
 use Rattle.dvi_writer.specs.declared.fault.WriteFault.{WriteFault}
@@ -16,9 +18,14 @@ pub record Wrote (old new : List ℕ) (cs : List Command) : Type 0 where
   pub spelt : Spells more cs
   pub few : length more ≤ 9 * length cs
 
+-- the number of a font has one byte
+abbrev pub HasByte : Piece → Type 0
+HasByte (Glyph font code width) = font.0 < 256
+HasByte (Rule height width) = Unit {0}
+
 abbrev pub AreSound : List Placed → Type 0
 AreSound [] = Unit {0}
-AreSound (p ∷ ps) = IsSoundPiece p.piece × AreSound ps
+AreSound (p ∷ ps) = IsSoundPiece p.piece × (HasByte p.piece × AreSound ps)
 
 -- the pen wrote these glyphs and rules
 pub record Writes (old new : Pen) (ps : List Placed) : Type 0 where

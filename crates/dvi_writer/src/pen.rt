@@ -3,7 +3,7 @@
 ghost use Rattle.std.specs.Prelude.{◌≡◌, true, [], ◌∷◌, OnOk, IfErr};
 ghost use Rattle.box_marks.specs.Bounds.{IsSoundPiece};
 ghost use Rattle.dvi_writer.specs.Saying.{said, fits, IsInReach};
-ghost use Rattle.dvi_writer.specs.Wrote.{Wrote, Writes, Refuses};
+ghost use Rattle.dvi_writer.specs.Wrote.{Wrote, Writes, Refuses, HasByte};
 
 use crate::fault::WriteFault;
 use crate::hand::{Hand, across, along, fits};
@@ -40,7 +40,8 @@ fn put_said(out: &mut Vec<u8>, hand: Hand, p: Placed) -> Result<(), AllocError>
     requires near { IsInReach hand.at }
     requires fit { fits p ≡ true }
     requires sound { IsSoundPiece p.piece }
-    ensures { OnOk result (Wrote out.old.items out.new.items (said hand p)) }
+    ensures wrote { OnOk result (Wrote out.old.items out.new.items (said hand p)) }
+    ensures byte { OnOk result (HasByte p.piece) }
 {
     put_turn(out, hand.dir, p.dir)?;
     put_right(out, along(p.dir, hand.at, p.at))?;

@@ -1,13 +1,13 @@
 //! Commands of a page at the end of the bytes.
 
-ghost use Rattle.std.specs.Prelude.{◌≡◌, ◌++◌, [], ◌∷◌, pos, IsTrue, true, OnOk};
+ghost use Rattle.std.specs.Prelude.{◌≡◌, ◌<◌, ◌++◌, [], ◌∷◌, pos, IsTrue, true, OnOk};
 ghost use Rattle.byteorder.specs.Endian.{big_bytes};
 ghost use Rattle.ts_geometry.specs.Numbers.{IsWithin};
 ghost use Rattle.dvi_commands.specs.Commands as c;
 ghost use Rattle.dvi_commands.specs.Fields.{with_sign, signed_bytes};
 ghost use Rattle.box_marks.specs.Bounds.{IsSoundPiece};
 ghost use Rattle.dvi_writer.specs.Saying.{same_dir, turn_said, right_said, down_said, number_of, is_chosen, font_said, piece_said, is_short};
-ghost use Rattle.dvi_writer.specs.Wrote.{Wrote};
+ghost use Rattle.dvi_writer.specs.Wrote.{Wrote, HasByte};
 
 use crate::hand::same_dir;
 use crate::opcode;
@@ -141,7 +141,9 @@ fn put_down4(out: &mut Vec<u8>, n: Sp) -> Result<(), AllocError>
 /// Puts the choice of a font, unless it is chosen.
 #[tactic(auto, using(crate::proofs::Puts::wrote_font, crate::proofs::Puts::wrote_none))]
 fn put_font(out: &mut Vec<u8>, from: Option<FontNo>, to: FontNo) -> Result<(), AllocError>
-    ensures { OnOk result (Wrote out.old.items out.new.items (font_said (is_chosen from to) to)) }
+    ensures wrote { OnOk result
+        (Wrote out.old.items out.new.items (font_said (is_chosen from to) to)) }
+    ensures byte { to.0 < 256 }
 {
     if is_chosen(from, to) {
         return Ok(());
@@ -194,7 +196,8 @@ pub(crate) fn put_piece(
 ) -> Result<(), AllocError>
     requires sound { IsSoundPiece piece }
     requires short { is_short piece ≡ true }
-    ensures { OnOk result (Wrote out.old.items out.new.items (piece_said from piece)) }
+    ensures wrote { OnOk result (Wrote out.old.items out.new.items (piece_said from piece)) }
+    ensures byte { OnOk result (HasByte piece) }
 {
     match piece {
         Piece::Glyph { font, code, .. } => {

@@ -8,8 +8,8 @@ along-requires-clause-to_near c = on_page c.args.p c.requires.fit
 pub across-requires-clause-to_near : goal.across-requires-clause-to_near
 across-requires-clause-to_near c = on_page c.args.p c.requires.fit
 
-pub returns : goal.returns
-returns c =
+pub returns-clause-wrote : goal.returns-clause-wrote
+returns-clause-wrote c =
     let right = rw c.along.ensures.value at c.in_ok-put_right.ensures in
     let down = rw c.across.ensures.value at c.in_ok-put_down.ensures in
-    wrote_four _ _ _ _ _ _ _ _ _ c.in_ok-put_turn.ensures right down c.in_ok-put_piece.ensures
+    wrote_four _ _ _ _ _ _ _ _ _ c.in_ok-put_turn.ensures right down c.in_ok-put_piece.ensures.wrote

@@ -11,4 +11,4 @@ after-self-requires-clause-there c =
 pub returns-clause-ok : goal.returns-clause-ok
 returns-clause-ok c =
     let fit : fits c.args.p ≡ true = sym c.fits.ensures ∙ c.if-not-fits.false in
-    writes_one c.args.self.now _ c.args.p c.in_ok-put_said.ensures c.after-self.ensures fit c.requires.sound
+    writes_one c.args.self.now _ c.args.p c.in_ok-put_said.ensures.wrote c.after-self.ensures fit c.requires.sound c.in_ok-put_said.ensures.byte
