@@ -3,3 +3,4 @@ pub mod Says
 pub mod Puts
 pub mod Said
 pub mod Walks
+pub mod Drawing
