@@ -1,6 +1,6 @@
 -- The commands that are said of glyphs and rules draw them.
-use Rattle.std.proofs.Common.{◌≡◌, ℕ, ◌+◌, List, [], ◌∷◌, ◌++◌, map, refl, sym, ap, ◌∙◌, append_assoc, arith, ℤ, pos, Bool, true, false, Option, Some, None, Result, Ok, Err, subst, if◌then◌else◌}
-use Rattle.std.specs.Prelude.{neg_ℤ, ◌≤ℤ◌, ◌<ℤ◌, ◌+ℤ◌, ◌-ℤ◌, int_lt, int_le, nat_eq, ◌&&◌}
+use Rattle.std.proofs.Common.{◌≡◌, ℕ, List, [], ◌∷◌, ◌++◌, map, refl, ap, ◌∙◌, append_assoc, arith, ℤ, pos, Bool, true, false, Option, Some, None, Ok, subst, if◌then◌else◌}
+use Rattle.std.specs.Prelude.{neg_ℤ, ◌≤ℤ◌, ◌<ℤ◌, int_lt, nat_eq}
 use Rattle.std.specs.Ordering.{int_eq}
 use Rattle.std.proofs.lemmas.Int.{ints}
 use Rattle.std.proofs.lemmas.List.{append-nil}
@@ -24,10 +24,10 @@ use Rattle.dvi_code.specs.Laws.{CommandsDrawOn, NothingDrawn, OneDrawn}
 use Rattle.dvi_code.specs.Pages.{Widths, Pen, Spot, drawn, moved, is_in_range, stepped, rule, glyph_set}
 use Rattle.dvi_code.specs.Reading.{Draws}
 use Rattle.dvi_writer.specs.declared.hand.Hand.{Hand}
-use Rattle.dvi_writer.specs.Saying.{same_dir, number_of, along, across, turn_said, right_said, down_said, is_chosen, font_said, piece_said, said, width_of, font_after, after, all_said, all_after, is_short, fits, all_fit, IsOnPage, IsInReach}
+use Rattle.dvi_writer.specs.Saying.{same_dir, along, across, turn_said, right_said, down_said, is_chosen, font_said, piece_said, said, width_of, font_after, after, all_said, all_after, fits, all_fit, IsOnPage, IsInReach}
 use Rattle.dvi_writer.specs.Tables.{numbered, width_in}
 use Rattle.dvi_writer.specs.Wrote.{AreSound}
-use Rattle.dvi_writer.proofs.Said.{both_true, on_page, is_short_there, after_near}
+use Rattle.dvi_writer.proofs.Said.{both_true, on_page, after_near}
 
 -- ---- pens
 
@@ -101,6 +101,20 @@ is_zero z e = grind (arith, ints)
 pub same_number : (m n : ℕ) → nat_eq m n ≡ true → m ≡ n
 same_number m n e = grind arith
 
+-- ---- what glyphs need
+
+abbrev pub HasFont : List FontDef → List FontDef → Piece → Type 0
+HasFont fonts table (Glyph font code width) = font_of fonts (pos font.0) ≡ Some (numbered font.0 (font_at table font))
+HasFont fonts table (Rule height width) = Unit {0}
+
+abbrev pub HasWidth : Widths → List FontDef → Piece → Type 0
+HasWidth widths table (Glyph font code width) = width_in widths table font code ≡ Some width
+HasWidth widths table (Rule height width) = Unit {0}
+
+abbrev pub AllHave : Widths → List FontDef → List FontDef → List Placed → Type 0
+AllHave widths fonts table [] = Unit {0}
+AllHave widths fonts table (p ∷ ps) = HasFont fonts table p.piece × (HasWidth widths table p.piece × AllHave widths fonts table ps)
+
 module _ (nothing : NothingDrawn) (one : OneDrawn) (on : CommandsDrawOn) (widths : Widths) (fonts : List FontDef) where
   just : (p q : Pen) (cmd : Command) → drawn widths fonts p cmd ≡ Ok q → Draws widths fonts p (cmd ∷ []) q
   just p q cmd e = one widths fonts p q q cmd [] e (nothing widths fonts q)
@@ -173,23 +187,15 @@ module _ (nothing : NothingDrawn) (one : OneDrawn) (on : CommandsDrawOn) (widths
       let is : rule height.0 width.0 (spot_at at dir) ≡ more = rw (h, w) refl in
       just _ _ _ (ap (moved (pen at dir chosen ms) (stepped (spot_at at dir) width.0 (pos 0))) is ∙ moved_to at to dir chosen ms _ more refl r)
 
-  abbrev HasFont : List FontDef → Piece → Type 0
-  HasFont table (Glyph font code width) = font_of fonts (pos font.0) ≡ Some (numbered font.0 (font_at table font))
-  HasFont table (Rule height width) = Unit {0}
-
-  abbrev HasWidth : List FontDef → Piece → Type 0
-  HasWidth table (Glyph font code width) = width_in widths table font code ≡ Some width
-  HasWidth table (Rule height width) = Unit {0}
-
   draws_piece : (table : List FontDef) (from : Option FontNo) (piece : Piece) (at : Point) (dir : Dir) (ms : List Mark)
-      → IsInReach (step at dir (width_of piece) (sp (pos 0))) → IsSoundPiece piece → HasFont table piece → HasWidth table piece
+      → IsInReach (step at dir (width_of piece) (sp (pos 0))) → IsSoundPiece piece → HasFont fonts table piece → HasWidth widths table piece
       → Draws widths fonts (pen at dir (chosen_of fonts from) ms) (piece_said from piece)
       (pen (step at dir (width_of piece) (sp (pos 0))) dir (chosen_of fonts (font_after from piece)) (ms ++ mark_of table (record { piece = piece; at = at; dir = dir }) ∷ []))
   draws_piece table from (Glyph font code width) at dir ms r sound has given =
       on widths fonts _ _ _ (font_said (is_chosen from font) font) (c.set code ∷ []) (draws_font at dir from font ms) (draws_set table at dir font code width ms r has given)
   draws_piece table from (Rule height width) at dir ms r sound has given = draws_rule table at dir height width (chosen_of fonts from) ms r sound.high sound.wide
 
-  draws_said : (table : List FontDef) (h : Hand) (p : Placed) (ms : List Mark) → IsInReach h.at → fits p ≡ true → IsSoundPiece p.piece → HasFont table p.piece → HasWidth table p.piece
+  draws_said : (table : List FontDef) (h : Hand) (p : Placed) (ms : List Mark) → IsInReach h.at → fits p ≡ true → IsSoundPiece p.piece → HasFont fonts table p.piece → HasWidth widths table p.piece
       → Draws widths fonts (pen_of fonts h ms) (said h p) (pen_of fonts (after h p) (ms ++ mark_of table p ∷ []))
   draws_said table h p ms r fit sound has given =
       let s : IsInReach p.at = page_reach p.at (on_page p fit) in
@@ -199,11 +205,7 @@ module _ (nothing : NothingDrawn) (one : OneDrawn) (on : CommandsDrawOn) (widths
       (on widths fonts _ _ _ (down_said (across p.dir h.at p.at)) (piece_said h.font p.piece) (draws_across p.dir h.at p.at chosen ms s)
       (draws_piece table h.font p.piece p.at p.dir ms (after_near h p fit sound) sound has given)))
 
-  abbrev AllHave : List FontDef → List Placed → Type 0
-  AllHave table [] = Unit {0}
-  AllHave table (p ∷ ps) = HasFont table p.piece × (HasWidth table p.piece × AllHave table ps)
-
-  pub draws_all : (table : List FontDef) (h : Hand) (ps : List Placed) (ms : List Mark) → IsInReach h.at → all_fit ps ≡ true → AreSound ps → AllHave table ps
+  pub draws_all : (table : List FontDef) (h : Hand) (ps : List Placed) (ms : List Mark) → IsInReach h.at → all_fit ps ≡ true → AreSound ps → AllHave widths fonts table ps
       → Draws widths fonts (pen_of fonts h ms) (all_said h ps) (pen_of fonts (all_after h ps) (ms ++ map (mark_of table) ps))
   draws_all table h [] ms r fit sound has = rw (append-nil ms) (nothing widths fonts (pen_of fonts h ms))
   draws_all table h (p ∷ ps) ms r fit sound has =

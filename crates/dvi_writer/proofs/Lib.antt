@@ -4,3 +4,10 @@ pub mod Puts
 pub mod Said
 pub mod Walks
 pub mod Drawing
+pub mod Pieces
+pub mod Inside
+pub mod Fonts
+pub mod Bounds
+pub mod Leading
+pub mod Pages
+pub mod Ending

@@ -1,3 +1,10 @@
 pub mod Saying
 pub mod Wrote
 pub mod Tables
+pub mod Written
+pub mod Keeping
+pub mod Pages
+pub mod Reading
+pub mod Joining
+pub mod Standing
+pub mod Laws

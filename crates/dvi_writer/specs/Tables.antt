@@ -1,5 +1,5 @@
 -- The fonts of a file: those of a table, each with its place as its number.
-use Rattle.std.specs.Prelude.{ℕ, ◌+◌, List, [], ◌∷◌, Option, Some, pos, take}
+use Rattle.std.specs.Prelude.{ℕ, ◌+◌, List, [], ◌∷◌, Option, pos, take}
 use Rattle.ts_geometry.specs.declared.measure.Sp.{Sp}
 use Rattle.dvi_commands.specs.declared.font.FontDef.{FontDef}
 use Rattle.dvi_code.specs.Pages.{Widths}
@@ -20,8 +20,8 @@ abbrev pub numbered_from : ℕ → List FontDef → List FontDef
 numbered_from n [] = []
 numbered_from n (f ∷ fs) = numbered n f ∷ numbered_from (n + 1) fs
 
--- a font number has one byte
-abbrev pub known : List FontDef → List FontDef
+-- those of which the number has one byte
+unfoldable pub known : List FontDef → List FontDef
 known table = take 256 table
 
 -- the fonts that a file defines for a table
