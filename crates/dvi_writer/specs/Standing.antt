@@ -1,5 +1,5 @@
 -- What a writer stands for, and what a page more makes of it.
-use Rattle.std.specs.Prelude.{◌≡◌, ℕ, ◌+◌, List, ◌++◌, max, if◌then◌else◌, Option, Some, None, Result, Ok, Err}
+use Rattle.std.specs.Prelude.{◌≡◌, ℕ, ◌+◌, List, [], ◌++◌, max, if◌then◌else◌, Option, Some, None, Result, Ok, Err}
 use Rattle.ts_base.specs.Agreement.{Cause, Determined, Free}
 use Rattle.dvi_commands.specs.declared.font.FontDef.{FontDef}
 use Rattle.box_tree.specs.Trees.{BoxTree}
@@ -40,6 +40,14 @@ last_bytes w = end_bytes w.kept w.fonts
 -- the bytes, with more after them, are read as the pages of these boxes and then what the more says
 abbrev pub Stands : Writer → List Asked → List ℕ → Type 0
 Stands w pages bytes = StandsFor w.kept w.fonts pages bytes
+
+-- no page came
+pub record IsNew (w : Writer) : Type 0 where
+  pub pages : page_count w ≡ 0
+  pub weight : weight_shipped w ≡ 0
+  pub high : greatest_height w ≡ 0
+  pub wide : greatest_width w ≡ 0
+  pub fonts : fonts_so_far w ≡ []
 
 -- ---- a page more
 

@@ -31,11 +31,12 @@ pub struct Writer {
 
 impl Writer {
     ghost use Rattle.dvi_writer.specs.Reading.{Asked, HasWidths, page_asked};
-    ghost use Rattle.dvi_writer.specs.Standing.{last_bytes, Stands, page_count, Begins, Counted, permitted, write_cause};
+    ghost use Rattle.dvi_writer.specs.Standing.{last_bytes, Stands, page_count, IsNew, Begins, Counted, permitted, write_cause};
 
     /// Returns the writer of a file that has no page yet. Takes no memory.
     pub fn new(alloc: Global) -> Writer
-        ensures { Stands result [] [] }
+        ensures empty { IsNew result }
+        ensures stands { Stands result [] [] }
     {
         let kept = Kept::new();
         Writer {
@@ -66,6 +67,7 @@ impl Writer {
         ensures exact { Agrees (λ v. tt) write_cause result (permitted self.old node.now) }
         ensures counted { OnOk result (Counted self.old node.now fonts.now self.new) }
         ensures refused { OnErr result (self.new ≡ self.old) }
+        ensures ends { IfOk result (λ v. (front : List ℕ) × (v.items ≡ front ++ 140 ∷ [])) }
         ensures stands { IfOk result (λ v. (pages : List Asked) (bytes : List ℕ)
             → Stands self.old pages bytes
             → Stands self.new (pages ++ record { counts = counts.now; fonts = fonts.now; node = node.now } ∷ []) (bytes ++ v.items)) }
