@@ -12,6 +12,8 @@ mod page;
 mod pen;
 mod put;
 mod table;
+#[cfg(test)]
+mod tests;
 mod walk;
 mod writer;
 
