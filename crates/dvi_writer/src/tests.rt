@@ -10,7 +10,7 @@ ghost use Rattle.box_tree.specs.Sound.{IsSound, IsSoundItem};
 ghost use Rattle.box_marks.specs.Glyphs.{IsBelow, ItemMeets, FontsAreBelow};
 ghost use Rattle.dvi_writer.specs.Tables.{known};
 
-use crate::{FontTable, Writer};
+use crate::{FontTable, WriteFault, Writer};
 use box_tree::{BoxFault, BoxKind, BoxNode, FontNo, Item, Items, KernFrom, SetGlue, SharedBox};
 use dvi_code::laws::short_names_are_sound;
 use dvi_code::{DviPage, FontDef, What, Widths, read_pages};
@@ -186,4 +186,40 @@ fn pages_come_back_with_their_fonts(rt: HostRuntime) -> Result<(), Fail> {
         [(0x3441, 81_920, 0, Dir::Tate)].as_slice()
     );
     Ok(())
+}
+
+/// Returns why the page of a box of two items is refused, if it is.
+fn refusal(alloc: Global, a: Item, b: Item) -> Result<Option<WriteFault>, BoxFault>
+    requires a_sound { IsSoundItem Dir.Yoko (tree_item a) }
+    requires b_sound { IsSoundItem Dir.Yoko (tree_item b) }
+    requires a_fonts { ItemMeets (IsBelow 0) (tree_item a) }
+    requires b_fonts { ItemMeets (IsBelow 0) (tree_item b) }
+{
+    let node = pair(alloc, Dir::Yoko, 0, a, b)?;
+    let mut writer = Writer::new(alloc);
+    Ok(writer.page(&node, &[0; 10], &FontTable::new(alloc)).err())
+}
+
+/// Returns whether the page of a rule at this place, of this height and this depth, is refused for
+/// its range.
+fn is_refused(alloc: Global, x: i64, height: i64, depth: i64) -> bool
+    requires x { IsWithin 1073741823 x }
+    requires height { IsWithin 1073741823 height }
+    requires depth { IsWithin 1073741823 depth }
+{
+    matches!(
+        refusal(alloc, kern(x), rule(1, height, depth)),
+        Ok(Some(WriteFault::PlaceRange))
+    )
+}
+
+#[test]
+fn places_and_rules_have_their_range(rt: HostRuntime) {
+    let alloc = rt.alloc();
+    assert!(rt; !is_refused(alloc, 536_870_911, 1, 0));
+    assert!(rt; is_refused(alloc, 536_870_912, 1, 0));
+    assert!(rt; is_refused(alloc, -536_870_912, 1, 0));
+    assert!(rt; !is_refused(alloc, 0, 1_073_741_823, 0));
+    assert!(rt; is_refused(alloc, 0, 1_073_741_823, 1));
+    assert!(rt; !is_refused(alloc, 0, 1_073_741_823, -1_073_741_823));
 }
