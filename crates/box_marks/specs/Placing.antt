@@ -65,8 +65,8 @@ abbrev mutual
   -- what a box marks that is set from this point
   pub box_placed : BoxTree → Point → List Placed
   box_placed (node kind dir size set items) at =
-      items_placed (record { kind = kind; dir = dir; size = size; set = set; at = at }) (pos 0) (pos 0)
-      items
+      let f : Frame = record { kind = kind; dir = dir; size = size; set = set; at = at } in
+      items_placed f (pos 0) (pos 0) items
 
   -- what items mark before which this natural sum and this stretch or shrink of the set order stand
   pub items_placed : Frame → ℤ → ℤ → TreeItems → List Placed

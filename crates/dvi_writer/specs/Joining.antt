@@ -8,19 +8,19 @@ use Rattle.box_marks.specs.Glyphs.{FontsAreBelow}
 use Rattle.dvi_writer.specs.declared.kept.Kept.{Kept}
 use Rattle.dvi_writer.specs.Keeping.{kept_after}
 use Rattle.dvi_writer.specs.Pages.{IsPage}
-use Rattle.dvi_writer.specs.Reading.{Asked, StandsFor, HasWidths, page_asked}
+use Rattle.dvi_writer.specs.Reading.{Asked, asked_for, StandsFor, HasWidths, page_asked}
 use Rattle.dvi_writer.specs.Tables.{known}
 use Rattle.dvi_writer.specs.Written.{KeptFits, HasNumbers, end_bytes}
 
 -- a page joins those before it
 abbrev pub PagesJoin : Type 0
-PagesJoin = (k : Kept) (fonts full more : List FontDef) (b : BoxTree) (counts : List ℤ) (out : List ℕ)
-    (turned : Bool) (pages : List Asked) (bytes : List ℕ)
+PagesJoin = (k : Kept) (fonts full more : List FontDef) (b : BoxTree) (counts : List ℤ)
+    (out : List ℕ) (turned : Bool) (pages : List Asked) (bytes : List ℕ)
     → IsPage k (length fonts) b counts (known full) out turned → known full ≡ fonts ++ more
     → All (λ f. is_sound_font f ≡ true) full → FontsAreBelow (length full) b
     → length counts ≡ 10 → StandsFor k fonts pages bytes
     → StandsFor (kept_after k b (length out) turned) (known full)
-    (pages ++ record { counts = counts; fonts = full; node = b } ∷ []) (bytes ++ out)
+    (pages ++ asked_for counts full b ∷ []) (bytes ++ out)
 
 -- the end makes the pages a file
 abbrev pub FilesEnd : Type 0

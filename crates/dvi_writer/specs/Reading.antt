@@ -20,6 +20,9 @@ pub record Asked : Type 0 where
   pub fonts : List FontDef
   pub node : BoxTree
 
+abbrev pub asked_for : List ℤ → List FontDef → BoxTree → Asked
+asked_for counts fonts b = record { counts = counts; fonts = fonts; node = b }
+
 -- the page of its counts and the marks of its box
 abbrev pub page_asked : Asked → DviPage
 page_asked a = record { counts = a.counts; marks = page_marks a.fonts a.node }
@@ -57,7 +60,8 @@ pub record IsFresh (k : Kept) (fonts : List FontDef) : Type 0 where
   pub last : k.last ≡ negsuc 0
   pub none : fonts ≡ []
 
--- The bytes, with more after them, are read as the pages of these boxes and then what the more says.
+-- The bytes, with more after them, are read as the pages of these boxes and then what the more
+-- says.
 pub record StandsFor (k : Kept) (fonts : List FontDef) (pages : List Asked) (bytes : List ℕ)
     : Type 0 where
   pub sheets : List Sheet

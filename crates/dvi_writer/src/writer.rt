@@ -30,7 +30,7 @@ pub struct Writer {
 }
 
 impl Writer {
-    ghost use Rattle.dvi_writer.specs.Reading.{Asked, HasWidths, page_asked};
+    ghost use Rattle.dvi_writer.specs.Reading.{Asked, asked_for, HasWidths, page_asked};
     ghost use Rattle.dvi_writer.specs.Standing.{last_bytes, Stands, page_count, IsNew, Begins, Counted, permitted, write_cause};
 
     /// Returns the writer of a file that has no page yet. Takes no memory.
@@ -70,7 +70,8 @@ impl Writer {
         ensures ends { IfOk result (λ v. (front : List ℕ) × (v.items ≡ front ++ 140 ∷ [])) }
         ensures stands { IfOk result (λ v. (pages : List Asked) (bytes : List ℕ)
             → Stands self.old pages bytes
-            → Stands self.new (pages ++ record { counts = counts.now; fonts = fonts.now; node = node.now } ∷ []) (bytes ++ v.items)) }
+            → Stands self.new (pages ++ asked_for counts.now fonts.now node.now ∷ [])
+            (bytes ++ v.items)) }
     {
         pages_join();
         few_are_placed();
