@@ -5,10 +5,14 @@ use Rattle.std.proofs.Math.Seq.{take-append_seam}
 use Rattle.tok_lists.specs.declared.spelling.Spelling.{Spelling}
 use Rattle.tok_lists.specs.declared.token.Token.{Token}
 use Rattle.tok_lists.specs.declared.token.Token.TheVariants.{Char, Ja, Name, Kept, Param}
-use Rattle.tok_lists.specs.Names.{IsHeld, IsNoParam}
+use Rattle.tok_lists.specs.Names.{IsHeld, IsNoParam, HasNoParam, Grew}
+use Rattle.tok_lists.proofs.Growing.{all_held_still}
+use Rattle.tok_lists.proofs.Flat.{held_together}
+use Rattle.env_groups.specs.declared.meaning.MacroDef.{MacroDef}
+use Rattle.raw_texts.specs.Holding.{AreTokens}
 use Rattle.tok_lists.specs.Pending.{IsParamWithin, AreParamsWithin}
 use Rattle.macros.specs.declared.body.Body.{Body}
-use Rattle.macros.specs.Bodies.{IsBody}
+use Rattle.macros.specs.Bodies.{stored, IsBody}
 use Rattle.macros.specs.Borders.{AreNoBraces}
 use Rattle.macros.specs.Headings.{IsBegin}
 use Rattle.macros.specs.Definitions.{with_last, macro_of, IsDefined}
@@ -72,3 +76,28 @@ macro_by names b (Some t) is last =
 
 pub macro_is : (names : List Spelling) (b : Body) → IsBody names b → IsDefined names (macro_of b)
 macro_is names b is = macro_by names b b.heading.brace is is.text.last
+
+pub defined_still : (old new : List Spelling) (m : MacroDef) → Grew old new → IsDefined old m → IsDefined new m
+defined_still old new m grew is = record {
+  sound = is.sound;
+  braces = is.braces;
+  params = all_held_still old new m.params grew is.params;
+  body = all_held_still old new m.body grew is.body;
+}
+
+-- ---- tokens that are stored
+
+all_within : (count : ℕ) (l : List Token) → HasNoParam l → AreParamsWithin count l
+all_within count [] h = tt
+all_within count (t ∷ l) h = (param_within count t h.0, all_within count l h.1)
+
+within_together : (count : ℕ) (a b : List Token) → AreParamsWithin count a → AreParamsWithin count b → AreParamsWithin count (a ++ b)
+within_together count [] b h g = g
+within_together count (t ∷ a) b h g = (h.0, within_together count a b h.1 g)
+
+pub body_stored : (names : List Spelling) (b : Body) (list : List Token) → AreTokens names list → IsBody names b → IsBody names (stored b list)
+body_stored names b list are is = record {
+  text = is.text;
+  held = held_together names b.tokens list is.held are.held;
+  within = within_together b.heading.count b.tokens list is.within (all_within b.heading.count list are.no_param);
+}

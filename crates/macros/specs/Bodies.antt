@@ -72,6 +72,10 @@ hashed b token =
 abbrev pub step : Nest → Body → Token → Answer
 step nest b token = if b.hash then hashed b token else taken b token (brace_of token)
 
+-- the body with tokens that are stored as they are
+abbrev pub stored : Body → List Token → Body
+stored b list = record { heading = b.heading; tokens = b.tokens ++ list; level = b.level; hash = b.hash }
+
 -- a body of which no token was taken, after its parameter text
 abbrev pub empty : Heading → Body
 empty h = record { heading = h; tokens = []; level = 0; hash = false }

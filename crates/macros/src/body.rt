@@ -1,14 +1,15 @@
 //! Bodies of definitions.
 
-ghost use Rattle.std.specs.Prelude.{◌≡◌, ◌+◌, ◌-◌, ◌≤◌, List};
+ghost use Rattle.std.specs.Prelude.{◌≡◌, ◌+◌, ◌-◌, OnOk, List};
 ghost use Rattle.ts_base.specs.Agreement.{Agrees, Uncounted};
 ghost use Rattle.tok_lists.specs.declared.spelling.Spelling.{Spelling};
 ghost use Rattle.tok_lists.specs.Names.{IsHeld};
 ghost use Rattle.tok_lists.specs.Pending.{IsParamWithin};
 ghost use Rattle.mouth.specs.Keeping.{IsToken};
+ghost use Rattle.raw_texts.specs.Holding.{AreTokens};
 ghost use Rattle.raw_texts.specs.Kinds.{brace_of as the_brace_of};
 ghost use Rattle.raw_texts.specs.Faults.{macro_cause};
-ghost use Rattle.macros.specs.Bodies.{empty, Numbers, kept, plain, ended, taken, hashed, IsBody};
+ghost use Rattle.macros.specs.Bodies.{empty, Numbers, kept, plain, ended, taken, hashed, stored, IsBody};
 ghost use Rattle.macros.specs.Headings.{IsHeading};
 
 use crate::heading::Heading;
@@ -61,6 +62,26 @@ impl Body {
             level: 0,
             hash: false,
         }
+    }
+
+    /// Returns whether a `#` was the last token.
+    pub fn is_hashed(&self) -> bool
+        ensures { result ≡ self.now.hash }
+    {
+        self.hash
+    }
+
+    /// Stores tokens as they are, with their braces and `#`, as those that `\the` gives in an
+    /// expanded body (TeX: The Program, section 478). Refused, it may have stored some of them.
+    pub fn store(&mut self, list: &[Token]) -> Result<(), NoMemory>
+        ensures ok { OnOk result (self.new ≡ stored self.old list.now) }
+        ensures holds { (names : List Spelling) → AreTokens names list.now
+            → IsBody names self.old → OnOk result (IsBody names self.new) }
+    {
+        for token in list {
+            self.tokens.push(*token)?;
+        }
+        Ok(())
     }
 
     // Keeps a token, with so many groups open after it.

@@ -1,8 +1,12 @@
-//! The law of delimited arguments. The lemmas that proofs cite for it stand in
-//! `proofs/Searching.antt`.
+//! Laws of delimited arguments and of macros. The lemmas that proofs cite for them stand in
+//! `proofs/Searching.antt` and `proofs/Bodied.antt`.
 
 ghost use Rattle.std.specs.Prelude.{◌≡◌, ◌<◌, ◌++◌, List, length, true};
 ghost use Rattle.tok_lists.specs.declared.token.Token.{Token};
+ghost use Rattle.tok_lists.specs.declared.spelling.Spelling.{Spelling};
+ghost use Rattle.tok_lists.specs.Names.{Grew};
+ghost use Rattle.env_groups.specs.declared.meaning.MacroDef.{MacroDef};
+ghost use Rattle.macros.specs.Definitions.{IsDefined};
 ghost use Rattle.macros.specs.Matching.{argument, depth, is_ended};
 
 /// The delimiter ends a text exactly where the text is an argument with the delimiter after it, and
@@ -16,4 +20,11 @@ pub fn an_argument_is_the_shortest()
         → is_ended delimiter text ≡ true → depth (argument delimiter text) ≡ 0 }
     ensures every { (delimiter front : List Token) → depth front ≡ 0
         → is_ended delimiter (front ++ delimiter) ≡ true }
+{}
+
+/// A macro stays as a definition makes it while names come.
+#[tactic(auto, using(crate::proofs::Bodied::defined_still))]
+pub fn definitions_stay()
+    ensures { (old new : List Spelling) (definition : MacroDef) → Grew old new
+        → IsDefined old definition → IsDefined new definition }
 {}

@@ -21,4 +21,4 @@ pub use body::Body;
 pub use call::read_call;
 pub use definition::{macro_of, read_definition};
 pub use heading::{Heading, read_heading};
-pub use laws::an_argument_is_the_shortest;
+pub use laws::{an_argument_is_the_shortest, definitions_stay};

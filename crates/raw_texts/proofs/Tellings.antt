@@ -8,9 +8,7 @@ use denote.Enum.Bare.{same_true, true_same}
 use Rattle.tok_lists.specs.declared.token.Token.{Token}
 use Rattle.tok_lists.specs.declared.token.Token.TheVariants as tokens
 use Rattle.tok_lists.specs.contracts.token.TokenPartialEq.TheImpl.{eq-value as token_eq}
-use Rattle.env_groups.specs.declared.prim.PrimitiveName.{PrimitiveName}
 use Rattle.env_groups.specs.contracts.prim.PrimitiveName.{the_type}
-use Rattle.env_groups.specs.declared.meaning.MacroDef.{MacroDef}
 use Rattle.env_groups.specs.declared.meaning.Meaning.{Meaning}
 use Rattle.env_groups.specs.declared.meaning.Meaning.TheVariants.{Undefined, Primitive, Macro, Letter, Code, Count, Dimen, Skip, Toks, Font}
 use Rattle.env_groups.specs.contracts.meaning.MeaningPartialEq.TheImpl.{eq-value}
