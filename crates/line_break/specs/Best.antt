@@ -1,11 +1,13 @@
--- The best breaks of one pass: the states met up to each break, and the walk of least sum (TeX: The Program, sections 829 to 859).
+-- The best breaks of one pass: the states met up to each break, and the walk of least sum (TeX:
+-- The Program, sections 829 to 859).
 use Rattle.std.specs.Prelude.{ℕ, zero, suc, Bool, true, false, not, ◌&&◌, ◌||◌, List, [], ◌∷◌, ◌++◌, length, Option, Some, None, if◌then◌else◌, nat_le, ◌==◌, ℤ, pos, ◌+ℤ◌, int_lt, int_le, unsigned_abs}
 use Rattle.std.specs.List.{fold, filter, filter_map, list_all}
 use Rattle.line_break.specs.declared.weight.Class.{Class}
 use Rattle.line_break.specs.declared.weight.Class.TheVariants.{VeryLoose, Loose, Decent, Tight}
 use Rattle.line_break.specs.Lines.{Pass, weight, closes, demerits, rank, legal_breaks}
 
--- a break that is reached, the class of the line that ends there, the least sum of demerits with which it is, and the breaks before it, the latest first
+-- a break that is reached, the class of the line that ends there, the least sum of demerits with
+-- which it is, and the breaks before it, the latest first
 pub record State : Type 0 where
   pub at : ℕ
   pub class : Class
@@ -22,11 +24,17 @@ is_open p s (suc d) = (nat_le d s || not (closes p s d)) && is_open p s d
 
 -- whether the line from s to b is admissible
 abbrev pub is_admissible : Pass → ℕ → ℕ → Bool
-is_admissible p s b = is_open p s b && (not (weight p s b).overfull && int_le (pos (weight p s b).badness) p.threshold)
+is_admissible p s b = is_open p s b
+    && (not (weight p s b).overfull && int_le (pos (weight p s b).badness) p.threshold)
 
 -- the state that a line from x to b leads to
 abbrev pub after_line : Pass → ℕ → State → State
-after_line p b x = record { at = b; class = (weight p x.at b).class; sum = x.sum +ℤ demerits p x.class x.at b; walk = x.at ∷ x.walk }
+after_line p b x = record {
+  at = b;
+  class = (weight p x.at b).class;
+  sum = x.sum +ℤ demerits p x.class x.at b;
+  walk = x.at ∷ x.walk;
+}
 
 -- the one of less sum, the later where sums are equal
 abbrev pub later_least : Option State → State → Option State
@@ -62,7 +70,8 @@ is_near p (Some best) y = int_le y.sum (best.sum +ℤ pos (unsigned_abs p.shape.
 
 -- what is reached at b by admissible lines
 abbrev pub reached : Pass → ℕ → List State → List State
-reached p b states = let found = filter_map (least p b states) classes in filter (is_near p (best_of found)) found
+reached p b states = let found = filter_map (least p b states) classes in
+    filter (is_near p (best_of found)) found
 
 -- every state that is open at b closes there
 abbrev pub all_close : Pass → ℕ → List State → Bool
@@ -74,11 +83,13 @@ last_open p b states = fold (λ found x. if is_open p x.at b then Some x else fo
 -- the line is taken at no cost
 abbrev pub rescued : Pass → ℕ → Option State → List State
 rescued p b None = []
-rescued p b (Some x) = record { at = b; class = (weight p x.at b).class; sum = x.sum; walk = x.at ∷ x.walk } ∷ []
+rescued p b (Some x) =
+    record { at = b; class = (weight p x.at b).class; sum = x.sum; walk = x.at ∷ x.walk } ∷ []
 
 -- where no admissible line leads to b
 abbrev pub or_rescue : Pass → ℕ → List State → List State → List State
-or_rescue p b states [] = if p.is_last && all_close p b states then rescued p b (last_open p b states) else []
+or_rescue p b states [] =
+    if p.is_last && all_close p b states then rescued p b (last_open p b states) else []
 or_rescue p b states (y ∷ ys) = y ∷ ys
 
 unfoldable pub new_states : Pass → ℕ → List State → List State

@@ -11,7 +11,12 @@ use Rattle.line_break.specs.declared.states.Found.{Found}
 
 -- the state that a reached one stands for, after the states `before`
 abbrev pub seen : List State → Reached → State
-seen before r = let x = slice_index_or before r.from start in record { at = r.at; class = r.class; sum = r.sum; walk = if r.at == 0 then [] else (x.at ∷ x.walk) }
+seen before r = let x = slice_index_or before r.from start in record {
+  at = r.at;
+  class = r.class;
+  sum = r.sum;
+  walk = if r.at == 0 then [] else (x.at ∷ x.walk);
+}
 
 abbrev pub and_seen : List State → Reached → List State
 and_seen before r = before ++ seen before r ∷ []
@@ -51,7 +56,12 @@ made b line x d i = record { at = b; class = line.class; sum = x.sum +ℤ d; fro
 
 -- by the line from the state with the index i, which is x
 abbrev pub reach : Pass → ℕ → ℕ → Reached → Reached
-reach p b i x = record { at = b; class = (weight p x.at b).class; sum = x.sum +ℤ demerits p x.class x.at b; from = i }
+reach p b i x = record {
+  at = b;
+  class = (weight p x.at b).class;
+  sum = x.sum +ℤ demerits p x.class x.at b;
+  from = i;
+}
 
 abbrev pub fits : Pass → ℕ → ℕ → Bool
 fits p s b = not (weight p s b).overfull && int_le (pos (weight p s b).badness) p.threshold
@@ -64,7 +74,8 @@ at_index states i = slice_index_or states i first
 
 -- what the open states find at b
 abbrev pub found_by : Pass → ℕ → List Reached → List ℕ → Found
-found_by p b states active = fold (λ found i. found_with p b found i (at_index states i)) nothing active
+found_by p b states active =
+    fold (λ found i. found_with p b found i (at_index states i)) nothing active
 
 -- those that stay open after b
 abbrev pub left_open : Pass → ℕ → List Reached → List ℕ → List ℕ
@@ -97,7 +108,12 @@ is_empty (x ∷ xs) = false
 
 -- the line from the state with the index i at no cost
 abbrev pub rescue_by : Pass → ℕ → List Reached → ℕ → Reached
-rescue_by p b states i = record { at = b; class = (weight p (at_index states i).at b).class; sum = (at_index states i).sum; from = i }
+rescue_by p b states i = record {
+  at = b;
+  class = (weight p (at_index states i).at b).class;
+  sum = (at_index states i).sum;
+  from = i;
+}
 
 abbrev pub last_rescue : Pass → ℕ → List Reached → List ℕ → Option Reached
 last_rescue p b states active = fold (λ found i. Some (rescue_by p b states i)) None active
@@ -112,7 +128,10 @@ or_rescue_code rescues r (y ∷ ys) = y ∷ ys
 
 -- the states that are new at b
 abbrev pub new_codes : Pass → ℕ → List Reached → List ℕ → List Reached
-new_codes p b states active = or_rescue_code (p.is_last && is_empty (left_open p b states active)) (last_rescue p b states active) (kept_codes p.shape.adj_demerits (found_list (found_by p b states active)))
+new_codes p b states active =
+    or_rescue_code (p.is_last && is_empty (left_open p b states active))
+    (last_rescue p b states active)
+    (kept_codes p.shape.adj_demerits (found_list (found_by p b states active)))
 
 -- each state but the start names an earlier one
 abbrev pub IsChain : List Reached → Type 0
@@ -125,7 +144,9 @@ walk_to rs i = (slice_index_or (meaning rs) i start).walk
 -- the better end of two, the earlier where sums are equal
 abbrev pub better_end : List Reached → ℕ → Option ℕ → ℕ → Option ℕ
 better_end rs n None i = if (at_index rs i).at == n then Some i else None
-better_end rs n (Some j) i = if (at_index rs i).at == n && int_lt (at_index rs i).sum (at_index rs j).sum then Some i else Some j
+better_end rs n (Some j) i =
+    if (at_index rs i).at == n && int_lt (at_index rs i).sum (at_index rs j).sum then Some i
+    else Some j
 
 abbrev pub best_end_of : List Reached → ℕ → Option ℕ
 best_end_of rs n = fold (better_end rs n) None (range_with_len 0 (length rs))

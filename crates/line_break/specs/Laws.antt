@@ -12,7 +12,8 @@ use Rattle.line_break.specs.Paragraphs.{ended, ends_forced, deciding_ends, passe
 -- sound items and a sound last glue make a sound paragraph
 abbrev pub EndedIsSound : Type 0
 EndedIsSound = (dir : Dir) (items : List Item) (fill : Glues) →
-    AreSound dir (tree_items items) → IsSoundGlue fill → AreSound dir (tree_items (ended items fill))
+    AreSound dir (tree_items items) → IsSoundGlue fill →
+    AreSound dir (tree_items (ended items fill))
 
 -- the end adds at most three items
 abbrev pub EndIsShort : Type 0

@@ -1,6 +1,7 @@
--- The lines of a paragraph: its legal breaks, the items of the line between two of them, its badness, class and demerits (The
--- TeXbook, chapter 14; TeX: The Program, sections 108, 851 to 853 and 859).
--- Break 0 is the start. The legal breaks are numbered from 1, in the order of their places.
+-- The lines of a paragraph: its legal breaks, the items of the line between two of them, its
+-- badness, class and demerits (The TeXbook, chapter 14; TeX: The Program, sections 108, 851 to
+-- 853 and 859). Break 0 is the start. The legal breaks are numbered from 1, in the order of their
+-- places.
 use Rattle.std.specs.Prelude.{ℕ, zero, suc, ◌+◌, Bool, true, false, not, ◌&&◌, ◌||◌, List, [], ◌∷◌, ◌++◌, length, take, drop, slice_index_or, Option, Some, None, if◌then◌else◌, nat_lt, ℤ, pos, ◌+ℤ◌, ◌-ℤ◌, ◌*ℤ◌, neg_ℤ, int_lt, int_le, unsigned_abs}
 use Rattle.std.specs.List.{filter, range_with_len, slice_range}
 use Rattle.std.specs.Ordering.{int_eq}
@@ -71,7 +72,8 @@ abbrev pub is_given : KernFrom → Bool
 is_given Given = true
 is_given Metric = false
 
--- whether a line may end at an item: glue after a solid item, a kern of a command before glue, or a penalty below 10000
+-- whether a line may end at an item: glue after a solid item, a kern of a command before glue, or
+-- a penalty below 10000
 abbrev pub can_end_at : Bool → Bool → Item → Bool
 can_end_at after_solid before_glue (Glyph font code size shift first last) = false
 can_end_at after_solid before_glue (Kanji font cell size kind) = false
@@ -121,11 +123,13 @@ abbrev pub without_dropped : List Item → List Item
 without_dropped [] = []
 without_dropped (x ∷ rest) = if is_dropped x then without_dropped rest else (x ∷ rest)
 
--- what is kept between a break at one place and the break at another; the item at which a line ends is in no line
+-- what is kept between a break at one place and the break at another; the item at which a line
+-- ends is in no line
 abbrev pub kept_between : List Item → ℕ → ℕ → List Item
 kept_between items from to = without_dropped (slice_range items from to)
 
--- what is kept up to the break at a place, after the break at another, or from the start, where nothing is dropped
+-- what is kept up to the break at a place, after the break at another, or from the start, where
+-- nothing is dropped
 abbrev pub kept_to : List Item → Option ℕ → ℕ → List Item
 kept_to items None to = take to items
 kept_to items (Some from) to = kept_between items from to
@@ -169,11 +173,16 @@ abbrev pub with_extra : ℤ → Totals → Totals
 with_extra extra t = record t { stretch = sp (t.stretch.0 +ℤ extra) }
 
 abbrev pub stretches_without_end : Totals → Bool
-stretches_without_end t = not (int_eq t.fil.0 (pos 0)) || (not (int_eq t.fill.0 (pos 0)) || not (int_eq t.filll.0 (pos 0)))
+stretches_without_end t = not (int_eq t.fil.0 (pos 0))
+    || (not (int_eq t.fill.0 (pos 0)) || not (int_eq t.filll.0 (pos 0)))
 
 -- a line that stretches with this badness
 abbrev pub stretched : ℕ → Weight
-stretched b = record { overfull = false; badness = b; class = if nat_lt 99 b then VeryLoose else (if nat_lt 12 b then Loose else Decent) }
+stretched b = record {
+  overfull = false;
+  badness = b;
+  class = if nat_lt 99 b then VeryLoose else (if nat_lt 12 b then Loose else Decent);
+}
 
 -- a line that shrinks with this badness
 abbrev pub shrunk : ℕ → Weight
@@ -181,7 +190,8 @@ shrunk b = record { overfull = false; badness = b; class = if nat_lt 12 b then T
 
 -- a line that is short by this much
 abbrev pub weight_short : ℤ → Totals → Weight
-weight_short short t = if stretches_without_end t then stretched 0 else stretched (badness (unsigned_abs short) t.stretch.0)
+weight_short short t = if stretches_without_end t then stretched 0
+    else stretched (badness (unsigned_abs short) t.stretch.0)
 
 -- a line that is too long by this much, or by nothing
 abbrev pub weight_long : ℤ → ℤ → Weight
@@ -191,7 +201,8 @@ weight_long excess shrink =
 
 -- a line of these totals at this width
 abbrev pub weight_at : ℤ → Totals → Weight
-weight_at hsize t = if int_lt t.width.0 hsize then weight_short (hsize -ℤ t.width.0) t else weight_long (t.width.0 -ℤ hsize) t.shrink.0
+weight_at hsize t = if int_lt t.width.0 hsize then weight_short (hsize -ℤ t.width.0) t
+    else weight_long (t.width.0 -ℤ hsize) t.shrink.0
 
 -- how the line from s to b fits
 unfoldable pub weight : Pass → ℕ → ℕ → Weight
@@ -224,18 +235,21 @@ is_forced p b = int_le (penalty p b) (neg_ℤ (pos 10000))
 unfoldable pub closes : Pass → ℕ → ℕ → Bool
 closes p s b = (weight p s b).overfull || is_forced p b
 
--- `\linepenalty` and the badness together count squared, and as 10^8 where they come to 10000 or more
+-- `\linepenalty` and the badness together count squared, and as 10^8 where they come to 10000 or
+-- more
 abbrev pub of_badness : ℤ → ℤ
 of_badness sum = if nat_lt (unsigned_abs sum) 10000 then sum *ℤ sum else pos 100000000
 
 -- a penalty from 1 to 9999 counts squared, and one from -9999 to -1 as minus its square
 abbrev pub of_penalty : ℤ → ℤ
 of_penalty p =
-    if nat_lt (unsigned_abs p) 10000 then (if int_lt (pos 0) p then p *ℤ p else neg_ℤ (p *ℤ p)) else pos 0
+    if nat_lt (unsigned_abs p) 10000 then (if int_lt (pos 0) p then p *ℤ p else neg_ℤ (p *ℤ p))
+    else pos 0
 
 -- the demerits but for `\adjdemerits`
 unfoldable pub plain_demerits : Pass → ℕ → ℕ → ℤ
-plain_demerits p s b = of_badness (p.shape.line_penalty +ℤ pos (weight p s b).badness) +ℤ of_penalty (penalty p b)
+plain_demerits p s b = of_badness (p.shape.line_penalty +ℤ pos (weight p s b).badness)
+    +ℤ of_penalty (penalty p b)
 
 -- the order of the classes
 abbrev pub rank : Class → ℕ

@@ -1,5 +1,5 @@
--- The end of a paragraph, the passes over it and the breaks that they give, and its lines (The TeXbook, chapter 14; TeX: The
--- Program, sections 816 and 863).
+-- The end of a paragraph, the passes over it and the breaks that they give, and its lines (The
+-- TeXbook, chapter 14; TeX: The Program, sections 816 and 863).
 use Rattle.std.specs.Global.{Global}
 use Rattle.std.specs.Prelude.{Vec, ℕ, ◌+◌, Bool, true, false, not, ◌&&◌, ◌||◌, List, [], ◌∷◌, ◌++◌, ◌-◌, length, take, drop, Option, Some, None, if◌then◌else◌, ℤ, pos, negsuc, int_lt, int_le, Result, Ok, Err}
 use Rattle.std.proofs.Common.{reverse}
@@ -74,7 +74,8 @@ any_shrinks [] = false
 any_shrinks (x ∷ rest) = item_shrinks_without_end x || any_shrinks rest
 
 abbrev pub has_infinite_shrink : List Item → ParaShape → Bool
-has_infinite_shrink items shape = any_shrinks items || (shrinks_without_end shape.left || shrinks_without_end shape.right)
+has_infinite_shrink items shape = any_shrinks items
+    || (shrinks_without_end shape.left || shrinks_without_end shape.right)
 
 -- ---- passes
 
@@ -85,28 +86,55 @@ items_of (Some v) = Some v.items
 abbrev pub capped : ℤ → ℤ
 capped tolerance = if int_lt tolerance (pos 10000) then tolerance else pos 10000
 
--- A pass with `\pretolerance`, where that isn't negative; one with `\tolerance`; and, where `\emergencystretch` is above 0, a last
--- one with that added to the stretch of each line.
+-- A pass with `\pretolerance`, where that isn't negative; one with `\tolerance`; and, where
+-- `\emergencystretch` is above 0, a last one with that added to the stretch of each line.
 abbrev pub made_pass : List Item → ParaShape → ℤ → ℤ → Bool → Pass
-made_pass items shape threshold extra is_last = record { items = items; shape = shape; threshold = threshold; extra = extra; is_last = is_last }
+made_pass items shape threshold extra is_last = record {
+  items = items;
+  shape = shape;
+  threshold = threshold;
+  extra = extra;
+  is_last = is_last;
+}
 
 abbrev pub first_pass : List Item → ParaShape → Pass
-first_pass items shape = record { items = items; shape = shape; threshold = capped shape.pretolerance; extra = pos 0; is_last = false }
+first_pass items shape = record {
+  items = items;
+  shape = shape;
+  threshold = capped shape.pretolerance;
+  extra = pos 0;
+  is_last = false;
+}
 
 abbrev pub second_pass : List Item → ParaShape → Pass
-second_pass items shape = record { items = items; shape = shape; threshold = capped shape.tolerance; extra = pos 0; is_last = not (int_lt (pos 0) shape.emergency.0) }
+second_pass items shape = record {
+  items = items;
+  shape = shape;
+  threshold = capped shape.tolerance;
+  extra = pos 0;
+  is_last = not (int_lt (pos 0) shape.emergency.0);
+}
 
 abbrev pub third_pass : List Item → ParaShape → Pass
-third_pass items shape = record { items = items; shape = shape; threshold = capped shape.tolerance; extra = shape.emergency.0; is_last = true }
+third_pass items shape = record {
+  items = items;
+  shape = shape;
+  threshold = capped shape.tolerance;
+  extra = shape.emergency.0;
+  is_last = true;
+}
 
 abbrev pub emergency_passes : List Item → ParaShape → List Pass
-emergency_passes items shape = if int_lt (pos 0) shape.emergency.0 then third_pass items shape ∷ [] else []
+emergency_passes items shape =
+    if int_lt (pos 0) shape.emergency.0 then third_pass items shape ∷ [] else []
 
 abbrev pub later_passes : List Item → ParaShape → List Pass
 later_passes items shape = second_pass items shape ∷ emergency_passes items shape
 
 abbrev pub passes : List Item → ParaShape → List Pass
-passes items shape = if int_le (pos 0) shape.pretolerance then first_pass items shape ∷ later_passes items shape else later_passes items shape
+passes items shape =
+    if int_le (pos 0) shape.pretolerance then first_pass items shape ∷ later_passes items shape
+    else later_passes items shape
 
 -- the places at which the lines of a walk to b end, the last one first
 abbrev pub ends_before : Pass → ℕ → List ℕ → List BreakAt
@@ -135,7 +163,8 @@ deciding_ends (p ∷ ps) = or_ends (chosen_ends p) (deciding_ends ps)
 
 -- a list that shrinks without end is refused before any line is weighed
 abbrev pub broken : List Item → ParaShape → Result (List BreakAt) ParaFault
-broken items shape = if has_infinite_shrink items shape then Err InfiniteShrink else Ok (deciding_ends (passes items shape))
+broken items shape = if has_infinite_shrink items shape then Err InfiniteShrink
+    else Ok (deciding_ends (passes items shape))
 
 abbrev pub para_cause : ParaFault → Cause
 para_cause InfiniteShrink = Determined
@@ -153,14 +182,16 @@ pairs_over [] = 0
 pairs_over (p ∷ ps) = pairs p (last_break p) + or_later (chosen_ends p) (pairs_over ps)
 
 abbrev pub pairs_made : List Item → ParaShape → ℕ
-pairs_made items shape = if has_infinite_shrink items shape then 0 else pairs_over (passes items shape)
+pairs_made items shape = if has_infinite_shrink items shape then 0
+    else pairs_over (passes items shape)
 
 -- ---- the lines
 
 -- the lines that end at these places, after a break at one, or from the start
 abbrev pub lines_from : List Item → ParaShape → Option ℕ → List BreakAt → List (List Item)
 lines_from items shape from [] = []
-lines_from items shape from (b ∷ bs) = with_skips shape (kept_to items from b.0) ∷ lines_from items shape (Some b.0) bs
+lines_from items shape from (b ∷ bs) = with_skips shape (kept_to items from b.0)
+    ∷ lines_from items shape (Some b.0) bs
 
 abbrev pub lines_at : List Item → ParaShape → List BreakAt → List (List Item)
 lines_at items shape ends = lines_from items shape None ends

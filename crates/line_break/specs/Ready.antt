@@ -20,7 +20,13 @@ use Rattle.line_break.specs.Running.{minus, all_breaks}
 
 -- the pass of the lines that the code asks of
 abbrev pub pass_of : PassLines → Pass
-pass_of l = record { items = l.items.now; shape = l.shape; threshold = l.threshold; extra = l.extra.0; is_last = l.is_last }
+pass_of l = record {
+  items = l.items.now;
+  shape = l.shape;
+  threshold = l.threshold;
+  extra = l.extra.0;
+  is_last = l.is_last;
+}
 
 abbrev pub AreSoundItems : List Item → Type 0
 AreSoundItems items = (dir : Dir) × AreSound dir (tree_items items)
@@ -35,7 +41,8 @@ pub record IsSoundShape (shape : ParaShape) : Type 0 where
 -- the breaks are those of the items, and the background that of the shape
 pub record IsPrepared (l : PassLines) : Type 0 where
   pub breaks : l.breaks.now ≡ all_breaks l.items.now
-  pub background : l.background ≡ with_extra l.extra.0 (totals (skip l.shape.left ∷ skip l.shape.right ∷ []))
+  pub background : l.background
+      ≡ with_extra l.extra.0 (totals (skip l.shape.left ∷ skip l.shape.right ∷ []))
   pub sound : AreSoundItems l.items.now
   pub shape_sound : IsSoundShape l.shape
   pub extra : IsDimen l.extra
@@ -57,7 +64,8 @@ HasSmallDemerits p = (c : Class) (s b : ℕ) → IsWithin (2 ^ 33) (demerits p c
 -- the code has met the first k breaks
 pub record Ready (p : Pass) (k : ℕ) (reached : List Reached) (active : List ℕ) : Type 0 where
   pub states : meaning reached ≡ states_to p k
-  pub opened : map (λ i. slice_index_or (states_to p k) i start) active ≡ open_states p (suc k) (states_to p k)
+  pub opened : map (λ i. slice_index_or (states_to p k) i start) active
+      ≡ open_states p (suc k) (states_to p k)
   pub within : All (λ i. i < length reached) active
   pub before : All (λ r. r.at < suc k) reached
   pub chain : IsChain reached

@@ -1,4 +1,5 @@
--- What the code adds up: the totals of the items from a place on, and of those that are kept after a break there.
+-- What the code adds up: the totals of the items from a place on, and of those that are kept
+-- after a break there.
 use Rattle.std.specs.Prelude.{ℕ, suc, ◌-◌, List, [], ◌∷◌, length, drop, map, if◌then◌else◌, ℤ, pos, ◌+ℤ◌, ◌-ℤ◌}
 use Rattle.std.specs.List.{filter, range_with_len}
 use Rattle.ts_geometry.specs.declared.glue.Order.{Order}
@@ -25,7 +26,14 @@ pub record AreNear (n : ℕ) (t : Totals) : Type 0 where
   pub shrink : IsWithin n t.shrink.0
 
 abbrev pub none : Totals
-none = record { width = sp (pos 0); stretch = sp (pos 0); fil = sp (pos 0); fill = sp (pos 0); filll = sp (pos 0); shrink = sp (pos 0) }
+none = record {
+  width = sp (pos 0);
+  stretch = sp (pos 0);
+  fil = sp (pos 0);
+  fill = sp (pos 0);
+  filll = sp (pos 0);
+  shrink = sp (pos 0);
+}
 
 abbrev pub item_stretch : Order → TreeItem → ℤ
 item_stretch order x = item_part (Stretch order (sp (pos 0)) (sp (pos 0))) x
@@ -84,12 +92,15 @@ break_at items place = break_before place (drop place items)
 -- the same with one more item before them
 abbrev pub with_before : Item → Break → Break
 with_before x b =
-    if is_dropped x then record { place = b.place - 1; kept = b.kept; from = totals_with (tree_item x) b.from; after = b.after }
-    else record { place = b.place - 1; kept = b.place - 1; from = totals_with (tree_item x) b.from; after = totals_with (tree_item x) b.from }
+    let from = totals_with (tree_item x) b.from in
+    if is_dropped x then
+    record { place = b.place - 1; kept = b.kept; from = from; after = b.after }
+    else record { place = b.place - 1; kept = b.place - 1; from = from; after = from }
 
 -- the legal breaks from a place on
 abbrev pub breaks_from : List Item → ℕ → List Break
-breaks_from items place = map (break_at items) (filter (is_legal items) (range_with_len place (length items - place)))
+breaks_from items place =
+    map (break_at items) (filter (is_legal items) (range_with_len place (length items - place)))
 
 -- at the start nothing is dropped
 abbrev pub start_break : List Item → Break

@@ -22,7 +22,8 @@ walk_sum p b (s ∷ earlier) = walk_sum p s earlier +ℤ demerits p (class_at p 
 
 -- no walk of admissible lines to the last break has a lower sum than the state that is chosen
 abbrev pub IsLeast : Pass → Type 0
-IsLeast p = (walk : List ℕ) → IsWalk p (last_break p) walk → IsSomeAnd (chosen p) (λ x. x.sum ≤ℤ walk_sum p (last_break p) walk)
+IsLeast p = (walk : List ℕ) → IsWalk p (last_break p) walk →
+    IsSomeAnd (chosen p) (λ x. x.sum ≤ℤ walk_sum p (last_break p) walk)
 
 abbrev pub is_empty : List State → Bool
 is_empty [] = true
@@ -37,4 +38,6 @@ NeedsNoRescue p = (k : ℕ) → k < last_break p → rescues p (suc k) (states_t
 
 -- the state that is chosen stands for a walk of admissible lines with its sum
 abbrev pub IsOfAdmissibleLines : Pass → Type 0
-IsOfAdmissibleLines p = IfSome (chosen p) (λ x. IsWalk p (last_break p) x.walk × (walk_sum p (last_break p) x.walk ≡ x.sum))
+IsOfAdmissibleLines p =
+    IfSome (chosen p) (λ x. IsWalk p (last_break p) x.walk × (walk_sum p (last_break p) x.walk
+    ≡ x.sum))

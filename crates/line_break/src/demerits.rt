@@ -6,8 +6,8 @@ ghost use Rattle.line_break.specs.Lines.{apart, of_badness, of_penalty};
 
 use crate::weight::Class;
 
-/// Returns the demerits of `\linepenalty` and a badness that come to this (TeX: The Program, section
-/// 859).
+/// Returns the demerits of `\linepenalty` and a badness that come to this (TeX: The Program,
+/// section 859).
 pub(crate) fn of_badness(sum: i64) -> i64
     ensures value { result ≡ of_badness sum }
     ensures bounded { IsWithin (2 ^ 28) result }

@@ -11,8 +11,8 @@ use ts_base::NoMemory;
 use ts_geometry::Glue;
 
 /// Returns the items of a paragraph with its end: the last item is removed where it is glue of any
-/// origin, and a penalty of 10000, the last glue, and a penalty of -10000 are appended (The TeXbook,
-/// chapter 14; TeX: The Program, section 816). Where it is refused the items are dropped.
+/// origin, and a penalty of 10000, the last glue, and a penalty of -10000 are appended (The
+/// TeXbook, chapter 14; TeX: The Program, section 816). Where it is refused the items are dropped.
 pub fn end_paragraph(_alloc: Global, items: Items, fill: Glue) -> Result<Items, NoMemory>
     ensures { IfOk result (λ all. all ≡ ended items fill) }
 {

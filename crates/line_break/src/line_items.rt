@@ -13,9 +13,9 @@ use ts_base::NoMemory;
 use ts_geometry::Glue;
 
 /// Returns the items of each line of a paragraph, where the lines end at these places: the left
-/// skip, what is kept of the items up to the place, and the right skip. The item at the place itself
-/// is in no line. After each break glue, penalties and kerns of a command are dropped, up to the
-/// next break (The TeXbook, chapter 14).
+/// skip, what is kept of the items up to the place, and the right skip. The item at the place
+/// itself is in no line. After each break glue, penalties and kerns of a command are dropped, up to
+/// the next break (The TeXbook, chapter 14).
 pub fn lines(
     alloc: Global,
     items: &[Item],

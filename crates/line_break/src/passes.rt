@@ -32,8 +32,8 @@ use ts_geometry::Sp;
 /// 890). Of the first pass that reaches the end they are the breaks with the least sum of demerits.
 /// Each line that is weighed is a step.
 ///
-/// InfiniteShrink comes exactly where glue of the items, or the left or the right skip, has a shrink
-/// other than 0 of an order other than Normal; then no line is weighed.
+/// InfiniteShrink comes exactly where glue of the items, or the left or the right skip, has a
+/// shrink other than 0 of an order other than Normal; then no line is weighed.
 pub fn breaks<L: Ledger>(
     alloc: Global,
     items: &[Item],
@@ -111,9 +111,14 @@ fn first_ends<L: Ledger>(
     requires sound { AreSoundItems items.now }
     requires shape_sound { IsSoundShape shape.now }
     requires few { length items.now ≤ 700000 }
-    ensures ends { IfOk result (λ ends. ends.items ≡ deciding_ends (first_pass items.now shape.now ∷ later_passes items.now shape.now)) }
-    ensures steps { OnOk result (steps.new ≡ steps.old + pairs_over (first_pass items.now shape.now ∷ later_passes items.now shape.now)) }
-    ensures most { steps.new ≤ steps.old + pairs_over (first_pass items.now shape.now ∷ later_passes items.now shape.now) }
+    ensures ends { IfOk result (λ ends. ends.items
+        ≡ deciding_ends (first_pass items.now shape.now ∷ later_passes items.now shape.now)) }
+    ensures steps { OnOk result (steps.new
+        ≡ steps.old + pairs_over (first_pass items.now shape.now
+        ∷ later_passes items.now shape.now)) }
+    ensures most { steps.new
+        ≤ steps.old + pairs_over (first_pass items.now shape.now
+        ∷ later_passes items.now shape.now) }
     ensures least { steps.old ≤ steps.new }
 {
     match pass_ends(alloc, &first(items, breaks, shape), steps)? {
@@ -135,8 +140,10 @@ fn later_ends<L: Ledger>(
     requires sound { AreSoundItems items.now }
     requires shape_sound { IsSoundShape shape.now }
     requires few { length items.now ≤ 700000 }
-    ensures ends { IfOk result (λ ends. ends.items ≡ deciding_ends (later_passes items.now shape.now)) }
-    ensures steps { OnOk result (steps.new ≡ steps.old + pairs_over (later_passes items.now shape.now)) }
+    ensures ends { IfOk result (λ ends. ends.items
+        ≡ deciding_ends (later_passes items.now shape.now)) }
+    ensures steps { OnOk result (steps.new
+        ≡ steps.old + pairs_over (later_passes items.now shape.now)) }
     ensures most { steps.new ≤ steps.old + pairs_over (later_passes items.now shape.now) }
     ensures least { steps.old ≤ steps.new }
 {
@@ -158,8 +165,10 @@ fn emergency_ends<L: Ledger>(
     requires sound { AreSoundItems items.now }
     requires shape_sound { IsSoundShape shape.now }
     requires few { length items.now ≤ 700000 }
-    ensures ends { IfOk result (λ ends. ends.items ≡ deciding_ends (emergency_passes items.now shape.now)) }
-    ensures steps { OnOk result (steps.new ≡ steps.old + pairs_over (emergency_passes items.now shape.now)) }
+    ensures ends { IfOk result (λ ends. ends.items
+        ≡ deciding_ends (emergency_passes items.now shape.now)) }
+    ensures steps { OnOk result (steps.new
+        ≡ steps.old + pairs_over (emergency_passes items.now shape.now)) }
     ensures most { steps.new ≤ steps.old + pairs_over (emergency_passes items.now shape.now) }
     ensures least { steps.old ≤ steps.new }
 {
@@ -183,8 +192,10 @@ fn third_ends<L: Ledger>(
     requires sound { AreSoundItems items.now }
     requires shape_sound { IsSoundShape shape.now }
     requires few { length items.now ≤ 700000 }
-    ensures ends { IfOk result (λ ends. ends.items ≡ deciding_ends (third_pass items.now shape.now ∷ [])) }
-    ensures steps { OnOk result (steps.new ≡ steps.old + pairs_over (third_pass items.now shape.now ∷ [])) }
+    ensures ends { IfOk result (λ ends. ends.items
+        ≡ deciding_ends (third_pass items.now shape.now ∷ [])) }
+    ensures steps { OnOk result (steps.new
+        ≡ steps.old + pairs_over (third_pass items.now shape.now ∷ [])) }
     ensures most { steps.new ≤ steps.old + pairs_over (third_pass items.now shape.now ∷ []) }
     ensures least { steps.old ≤ steps.new }
 {

@@ -190,8 +190,8 @@ fn stays_open(line: Weight, forced: bool) -> bool
     !line.overfull && !forced
 }
 
-/// Puts the index of a state that stays open after the first `left` ones, and returns how many these
-/// are then.
+/// Puts the index of a state that stays open after the first `left` ones, and returns how many
+/// these are then.
 fn keep_open(active: &mut Vec<usize>, left: usize, i: usize, stays: bool) -> usize
     requires { left < length active.old.items }
     ensures active { active.new.items ≡ with_open active.old.items left i stays }
@@ -331,7 +331,8 @@ pub(crate) fn one_pass<L: Ledger>(
     requires small { HasSmallDemerits (pass_of lines.now) }
     ensures chain { IfOk result (λ states. IsChain states.items) }
     ensures before { IfOk result (λ states. All (λ r. r.at < suc n) states.items) }
-    ensures states { IfOk result (λ states. meaning states.items ≡ states_to (pass_of lines.now) n) }
+    ensures states { IfOk result (λ states. meaning states.items
+        ≡ states_to (pass_of lines.now) n) }
     ensures steps { OnOk result (steps.new ≡ steps.old + pairs (pass_of lines.now) n) }
     ensures most { steps.new ≤ steps.old + pairs (pass_of lines.now) n }
     ensures least { steps.old ≤ steps.new }

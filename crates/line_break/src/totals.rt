@@ -106,8 +106,8 @@ pub(crate) fn difference(a: Sp, b: Sp) -> Sp
     Sp(a.0 - b.0)
 }
 
-/// Returns how far an item of a horizontal list leads on. A width of a rule that is absent counts as
-/// 0.
+/// Returns how far an item of a horizontal list leads on. A width of a rule that is absent counts
+/// as 0.
 fn width(item: &Item) -> Sp
     requires { (dir : Dir) × IsSoundItem dir (tree_item item.now) }
     ensures value { result ≡ sp (item_extent Horizontal (tree_item item.now)) }

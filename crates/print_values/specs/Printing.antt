@@ -1,4 +1,5 @@
--- What is printed, as tokens (The TeXbook, chapter 20): characters have category 12, but a space 10, and Japanese ones stay.
+-- What is printed, as tokens (The TeXbook, chapter 20): characters have category 12, but a space
+-- 10, and Japanese ones stay.
 use Rattle.std.specs.Prelude.{ℕ, List, [], ◌∷◌, map, nat_eq, if◌then◌else◌, ℤ, int_lt, pos, unsigned_abs}
 use Rattle.std.specs.Fmt.{signed_decimal}
 use Rattle.jis_codes.specs.declared.character.Char.{Char as Character}
@@ -34,4 +35,5 @@ printed_glue g = printed (glue g)
 
 -- a name begins with the escape, byte 92; an active character is printed alone
 abbrev pub printed_name : Spelling → List Token
-printed_name s = if s.active then map printed_char s.chars else (printed_byte 92 ∷ map printed_char s.chars)
+printed_name s = if s.active then map printed_char s.chars
+    else (printed_byte 92 ∷ map printed_char s.chars)

@@ -1,4 +1,5 @@
--- The text of numbers, dimensions and glue, byte by byte (TeX: The Program, sections 65, 69, 103 and 178).
+-- The text of numbers, dimensions and glue, byte by byte (TeX: The Program, sections 65, 69, 103
+-- and 178).
 use Rattle.std.specs.Prelude.{ℕ, zero, suc, ◌+◌, ◌-◌, ◌*◌, ◌/◌, ◌%◌, List, [], ◌∷◌, ◌++◌, nat_le, nat_lt, nat_eq, if◌then◌else◌, ℤ, pos, int_lt, unsigned_abs, codes, decimal}
 use Rattle.std.proofs.Common.{replicate}
 use Rattle.std.specs.Ordering.{int_eq}
@@ -19,12 +20,13 @@ roman_digit one five ten digit =
 abbrev pub roman : ℕ → List ℕ
 roman n =
     replicate (n / 1000) 109
-    ++ (roman_digit 99 100 109 (n / 100 % 10) ++ (roman_digit 120 108 99 (n / 10 % 10) ++ roman_digit 105 118 120 (n % 10)))
+    ++ (roman_digit 99 100 109 (n / 100 % 10)
+    ++ (roman_digit 120 108 99 (n / 10 % 10) ++ roman_digit 105 118 120 (n % 10)))
 
 -- ---- dimensions
 
--- Each digit is that of what is left, in units of 1/65536 of it. The scale says how near the digits must come; the last of
--- five digits is rounded.
+-- Each digit is that of what is left, in units of 1/65536 of it. The scale says how near the
+-- digits must come; the last of five digits is rounded.
 abbrev pub nearest : ℕ → ℕ → ℕ
 nearest rest scale = if nat_lt 65536 scale then rest + 32768 - 50000 else rest
 
@@ -38,7 +40,9 @@ next_rest rest scale = 10 * (nearest rest scale % 65536)
 unfoldable pub fraction_digits : ℕ → ℕ → ℕ → List ℕ
 fraction_digits zero rest scale = []
 fraction_digits (suc n) rest scale =
-    (48 + nearest rest scale / 65536) ∷ or_stop (next_rest rest scale) (10 * scale) (fraction_digits n (next_rest rest scale) (10 * scale))
+    (48 + nearest rest scale / 65536)
+    ∷ or_stop (next_rest rest scale) (10 * scale)
+    (fraction_digits n (next_rest rest scale) (10 * scale))
 
 -- the digits of a fraction of so many scaled points
 abbrev pub fraction : ℕ → List ℕ
@@ -70,4 +74,5 @@ flexible word z order = if int_eq z (pos 0) then [] else word ++ (points z ++ un
 abbrev pub glue : Glue → List ℕ
 glue g =
     dimension g.width.0
-    ++ (flexible (codes " plus ") g.stretch.0 g.stretch_order ++ flexible (codes " minus ") g.shrink.0 g.shrink_order)
+    ++ (flexible (codes " plus ") g.stretch.0 g.stretch_order
+    ++ flexible (codes " minus ") g.shrink.0 g.shrink_order)

@@ -12,8 +12,8 @@ use tok_lists::{SharedTokens, Spelling, Token};
 use ts_base::NoMemory;
 use ts_geometry::{Glue, Sp};
 
-/// Returns the token of a character that is printed: of category 10 where it is a space, and else of
-/// category 12 (The TeXbook, chapter 20).
+/// Returns the token of a character that is printed: of category 10 where it is a space, and else
+/// of category 12 (The TeXbook, chapter 20).
 pub fn character(byte: u8) -> Token
     ensures { result ≡ printed_byte byte }
 {
