@@ -12,11 +12,7 @@ mod meaning;
 mod parameter;
 mod prim;
 mod situation;
-#[cfg(test)]
-mod start_tests;
 mod stored;
-#[cfg(test)]
-mod tests;
 
 pub use code::CodeKey;
 pub use env::Env;

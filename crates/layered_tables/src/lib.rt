@@ -4,6 +4,8 @@
 mod kept;
 mod laws;
 mod layers;
+#[cfg(test)]
+mod tests;
 
 pub use kept::Kept;
 pub use laws::{Property, a_value_stands_where_it_is_set, values_keep_what_all_have};

@@ -9,8 +9,6 @@ mod keyword;
 mod naming;
 mod scan;
 mod state;
-#[cfg(test)]
-mod tests;
 mod want;
 mod word;
 

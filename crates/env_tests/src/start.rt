@@ -1,6 +1,6 @@
 //! What holds at the start.
 
-use crate::*;
+use env_groups::*;
 use jis_codes::{Cell, Char};
 use std::alloc::Global;
 use std::process::Abort;

@@ -3,12 +3,12 @@
 ghost use Rattle.scan_syntax.specs.Scans.{IsOpen};
 ghost use Rattle.scan_syntax.specs.States.{reads};
 
-use crate::{Fed, Scan, ScanFault, ScanKind, Value, Want, Word};
 use box_tree::{BoxKind, BoxNode, BoxSize, Items, SetGlue, SharedBox};
 use env_groups::{
     DimKey, Env, EnvFault, FontFacts, FontSlot, GlueKey, IntKey, Meaning, Mode, Situation, ToksKey,
 };
 use jis_codes::{Char, from_euc};
+use scan_syntax::{Fed, Scan, ScanFault, ScanKind, Value, Want, Word};
 use std::alloc::Global;
 use std::process::Abort;
 use std::test::Fail;

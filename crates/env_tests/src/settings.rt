@@ -2,8 +2,8 @@
 
 ghost use Rattle.env_groups.specs.Bounds.{HasSetDimens};
 
-use crate::*;
 use box_tree::{BoxKind, BoxNode, FontNo, Items, SetGlue, SharedBox, Side};
+use env_groups::*;
 use jis_codes::{Cell, Char};
 use std::alloc::Global;
 use std::process::Abort;
