@@ -48,6 +48,7 @@ pub(crate) fn page_of(
     ensures err { IfErr result (λ fault. Refuses fault (page_placed node.now)) }
 {
     sound_places_are_near();
+    // Its limit bounds the places of the box.
     let _weight = node.weight();
     let mut out = Vec::new(alloc);
     put_front(&mut out, kept, defined, counts, table)?;

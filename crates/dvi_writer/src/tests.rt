@@ -1,11 +1,13 @@
 //! Pages that are written and read back.
 
-ghost use Rattle.std.specs.Prelude.{◌≡◌, ◌<◌, ◌++◌, ◌≤◌, List, ℕ, true, IfOk, OnOk, All, length};
+ghost use Rattle.std.specs.Prelude.{◌≡◌, ◌<◌, ◌++◌, ◌≤◌, List, ℕ, pos, true, IfOk, OnOk, All, length};
 ghost use Rattle.ts_geometry.specs.declared.direction.Dir.{Dir};
+ghost use Rattle.ts_geometry.specs.Crossings.{measures};
 ghost use Rattle.ts_geometry.specs.Numbers.{IsWithin};
 ghost use Rattle.dvi_commands.specs.declared.font.FontDef.{FontDef};
 ghost use Rattle.dvi_structure.specs.Structure.{is_sound_font};
 ghost use Rattle.box_tree.specs.Nodes.{tree_item};
+ghost use Rattle.box_tree.specs.Trees.{size_of, dir_of};
 ghost use Rattle.box_tree.specs.Sound.{IsSound, IsSoundItem};
 ghost use Rattle.box_marks.specs.Glyphs.{IsBelow, ItemMeets, FontsAreBelow};
 ghost use Rattle.dvi_writer.specs.Tables.{known};
@@ -18,7 +20,7 @@ use jis_codes::Cell;
 use std::alloc::Global;
 use std::test::Fail;
 use ts_base::NoMemory;
-use ts_geometry::{Dir, Measures, Sp};
+use ts_geometry::{Dir, Measures, Sp, seen};
 use ts_outside::{FileName, NameFault};
 
 /// The measures of the characters and of the boxes.
@@ -87,6 +89,9 @@ fn pair(alloc: Global, dir: Dir, fonts: usize, a: Item, b: Item) -> Result<Share
     requires b_fonts { ItemMeets (IsBelow fonts) (tree_item b) }
     ensures sound { IfOk result (λ node. IsSound node) }
     ensures fonts { IfOk result (λ node. FontsAreBelow fonts node) }
+    ensures dir { IfOk result (λ node. dir_of node ≡ dir) }
+    ensures size { IfOk result (λ node. size_of node ≡ measures (pos 655360) (pos 573440)
+        (pos 81920)) }
 {
     let mut items = Items::new(alloc);
     items.push(a)?;
@@ -99,6 +104,22 @@ fn pair(alloc: Global, dir: Dir, fonts: usize, a: Item, b: Item) -> Result<Share
         items,
     };
     SharedBox::new(alloc, node)
+}
+
+/// Returns a box as an item of a list in yoko.
+fn crossed(node: SharedBox) -> Item
+    requires sound { IsSound node }
+    requires dir { dir_of node ≡ Dir.Tate }
+    requires size { size_of node ≡ measures (pos 655360) (pos 573440) (pos 81920) }
+    ensures sound { IsSoundItem Dir.Yoko (tree_item result) }
+    ensures fonts { (n : ℕ) → FontsAreBelow n node → ItemMeets (IsBelow n) (tree_item result) }
+{
+    let seen = seen(SIZE, Dir::Tate, Dir::Yoko);
+    Item::Crossed {
+        node,
+        shift: Sp(0),
+        seen,
+    }
 }
 
 fn font(alloc: Global, name: &[u8]) -> Result<FontDef, NameFault>
@@ -222,4 +243,40 @@ fn places_and_rules_have_their_range(rt: HostRuntime) {
     assert!(rt; !is_refused(alloc, 0, 1_073_741_823, 0));
     assert!(rt; is_refused(alloc, 0, 1_073_741_823, 1));
     assert!(rt; !is_refused(alloc, 0, 1_073_741_823, -1_073_741_823));
+}
+
+/// Returns the file of the page of a box.
+fn file_of(alloc: Global, node: &SharedBox, fonts: &FontTable) -> Result<Vec<u8>, WriteFault>
+    requires sound { IsSound node.now }
+    requires fonts_there { FontsAreBelow (length fonts.now) node.now }
+    requires fonts_sound { All (λ f. is_sound_font f ≡ true) fonts.now }
+{
+    let mut writer = Writer::new(alloc);
+    let mut file = writer.page(node, &[0; 10], fonts)?;
+    let end = writer.finish()?;
+    file.extend_from_slice(&end)?;
+    Ok(file)
+}
+
+#[test]
+fn a_crossed_box_is_marked_in_its_own_direction(rt: HostRuntime) {
+    let alloc = rt.alloc();
+    let cell = Cell::new(20, 33).expect(&rt, "a cell");
+    let fonts = one_font(alloc).expect(&rt, "memory");
+    let inner = pair(alloc, Dir::Tate, 1, character(cell, 0), rule(3, 4, 5)).expect(&rt, "memory");
+    let node = pair(alloc, Dir::Yoko, 1, character(cell, 0), crossed(inner)).expect(&rt, "memory");
+    let file = file_of(alloc, &node, &fonts).expect(&rt, "memory");
+    let pages = read_pages(alloc, &file, &TenPoints).expect(&rt, "a file");
+    assert_eq!(rt; pages.len(), 1);
+    assert_eq!(rt;
+        shown(alloc, &pages.as_slice()[0])
+            .expect(&rt, "memory")
+            .as_slice(),
+        [
+            (0x3441, 0, 573_440, Dir::Yoko),
+            (0x3441, 737_280, -81_920, Dir::Tate),
+            (9, 737_275, 573_440, Dir::Tate),
+        ]
+        .as_slice()
+    );
 }

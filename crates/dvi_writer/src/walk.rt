@@ -35,6 +35,7 @@ pub(crate) fn put_box(pen: &mut Pen, node: &SharedBox, at: Point) -> Result<(), 
     sums_are_near();
     sums_run();
     each_item_weighs_something();
+    // Its limit bounds the places and sums below.
     let _weight = node.weight();
     let list = node.get();
     let frame = Frame::new(list, at);

@@ -75,7 +75,6 @@ impl Writer {
     {
         pages_join();
         few_are_placed();
-        let _weight = node.weight();
         match self.kept.limit(node) {
             Some(fault) => return Err(fault),
             None => {}
