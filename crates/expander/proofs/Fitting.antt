@@ -1,0 +1,90 @@
+-- An environment stays fit for expansion as names come.
+use Rattle.std.proofs.Common.{◌≡◌, ℕ, List, [], ◌∷◌, Option, Some, None, IfSome, arith}
+use Rattle.tok_lists.specs.declared.spelling.Spelling.{Spelling}
+use Rattle.tok_lists.specs.declared.token.Token.{Token}
+use Rattle.tok_lists.specs.Names.{Grew, AreHeld}
+use Rattle.tok_lists.proofs.Growing.{held_still, all_held_still, grew_longer}
+use Rattle.env_groups.specs.declared.meaning.MacroDef.{MacroDef}
+use Rattle.env_groups.specs.declared.meaning.Meaning.{Meaning}
+use Rattle.env_groups.specs.declared.meaning.Meaning.TheVariants as meanings
+use Rattle.env_groups.specs.Environments.{Environment, Nest, meaning_at}
+use Rattle.env_groups.specs.StartMeanings.{primitive_or_none, start_prims}
+use Rattle.env_groups.specs.declared.prim.PrimitiveName.{PrimitiveName}
+use Rattle.env_groups.specs.Laws.{HaveValues}
+use Rattle.env_groups.proofs.Keeping.{meaning_has}
+use Rattle.std.specs.Prelude.{slice_get}
+use Rattle.tok_lists.specs.declared.token.Token.TheVariants as tokens
+use Rattle.expander.specs.declared.action.Front.TheVariants as fronts
+use Rattle.expander.specs.Actions.{front_as, front_of}
+use Rattle.expander.specs.Holding.{IsCallable, IsFit, HaveRelax, AreFit}
+
+meaning_still : (old new : List Spelling) (m : Meaning) → Grew old new → IsFit old m → IsFit new m
+meaning_still old new meanings.Undefined grew fit = tt
+meaning_still old new (meanings.Primitive p) grew fit = tt
+meaning_still old new (meanings.Macro d) grew fit = record {
+  params = all_held_still old new d.params grew fit.params;
+  body = all_held_still old new d.body grew fit.body;
+  plain = fit.plain;
+}
+meaning_still old new (meanings.Letter t) grew fit = held_still old new t grew fit
+meaning_still old new (meanings.Code n) grew fit = tt
+meaning_still old new (meanings.Count n) grew fit = tt
+meaning_still old new (meanings.Dimen n) grew fit = tt
+meaning_still old new (meanings.Skip n) grew fit = tt
+meaning_still old new (meanings.Toks n) grew fit = tt
+meaning_still old new (meanings.Font n) grew fit = tt
+
+if_some : {A : Type 0} (P Q : A → Type 0) (o : Option A) → ((a : A) → P a → Q a) → IfSome o P → IfSome o Q
+if_some P Q (Some a) goes has = goes a has
+if_some P Q None goes has = tt
+
+values_still : (old new : List Spelling) (es : List Environment) → Grew old new → HaveValues (IsFit old) (AreHeld old) (λ _. Unit {0}) es → HaveValues (IsFit new) (AreHeld new) (λ _. Unit {0}) es
+values_still old new [] grew have = tt
+values_still old new (e ∷ es) grew have = (
+  record {
+    meanings = λ n. if_some (IsFit old) (IsFit new) _ (λ m fit. meaning_still old new m grew fit) (have.0.meanings n);
+    toks = λ n. if_some (AreHeld old) (AreHeld new) _ (λ list held. all_held_still old new list grew held) (have.0.toks n);
+    boxes = have.0.boxes;
+  },
+  values_still old new es grew have.1,
+)
+
+pub relax_still : (old new : List Spelling) → Grew old new → HaveRelax old → HaveRelax new
+relax_still old new grew have = let longer = grew_longer old new grew in omega (arith, longer, have)
+
+pub fit_still : (old new : List Spelling) (nest : Nest) → Grew old new → AreFit old nest → AreFit new nest
+unfolding AreFit
+fit_still old new nest grew fit = (relax_still old new grew fit.0, values_still old new nest.environments grew fit.1)
+
+pub fit_relax : (names : List Spelling) (nest : Nest) → AreFit names nest → HaveRelax names
+unfolding AreFit
+fit_relax names nest fit = fit.0
+
+start_fit : (names : List Spelling) (p : Option PrimitiveName) → IsFit names (primitive_or_none p)
+start_fit names (Some p) = tt
+start_fit names None = tt
+
+-- What a name means is fit.
+pub meaning_fit : (names : List Spelling) (nest : Nest) (n : ℕ) → AreFit names nest → IsFit names (meaning_at nest n)
+unfolding AreFit
+meaning_fit names nest n fit = meaning_has (IsFit names) (AreHeld names) (λ _. Unit {0}) nest n fit.1 (start_fit names (slice_get start_prims n))
+
+front_fit : (names : List Spelling) (m : Meaning) (d : MacroDef) → front_as m ≡ fronts.Call d → IsFit names m → IsCallable names d
+front_fit names meanings.Undefined d is fit = absurd cc
+front_fit names (meanings.Primitive p) d is fit = absurd cc
+front_fit names (meanings.Macro e) d is fit = let same : e ≡ d = cc in rw (← same) fit
+front_fit names (meanings.Letter t) d is fit = absurd cc
+front_fit names (meanings.Code n) d is fit = absurd cc
+front_fit names (meanings.Count n) d is fit = absurd cc
+front_fit names (meanings.Dimen n) d is fit = absurd cc
+front_fit names (meanings.Skip n) d is fit = absurd cc
+front_fit names (meanings.Toks n) d is fit = absurd cc
+front_fit names (meanings.Font n) d is fit = absurd cc
+
+-- A macro at the front can be called.
+pub call_fit : (names : List Spelling) (nest : Nest) (token : Token) (d : MacroDef) → front_of nest token ≡ fronts.Call d → AreFit names nest → IsCallable names d
+call_fit names nest (tokens.Char code cat) d is fit = absurd cc
+call_fit names nest (tokens.Ja cell) d is fit = absurd cc
+call_fit names nest (tokens.Name name) d is fit = front_fit names (meaning_at nest name.0) d is (meaning_fit names nest name.0 fit)
+call_fit names nest (tokens.Kept name) d is fit = absurd cc
+call_fit names nest (tokens.Param n) d is fit = absurd cc

@@ -1,0 +1,7 @@
+use Rattle.mouth.specs.Keeping.{place_in}
+use Rattle.expander.proofs.Exits.{mouth_refuses}
+use Rattle.expander.proofs.steps.take_plain.Goals as goal
+
+pub returns-in_err-next_plain-clause-exact : goal.returns-in_err-next_plain-clause-exact
+returns-in_err-next_plain-clause-exact g c = λ told.
+    mouth_refuses _ (place_in c.next_plain.new.self) c.from_residual.result c.in_err-next_plain.field-0.0 _ c.from_residual.ensures (c.in_err-next_plain.ensures.exact told)

@@ -1,0 +1,9 @@
+pub mod Faults
+pub mod Worlds
+pub mod Actions
+pub mod Conditionals
+pub mod Questions
+pub mod Plain
+pub mod Steps
+pub mod Expansion
+pub mod Holding
