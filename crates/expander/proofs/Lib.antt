@@ -5,3 +5,4 @@ pub mod Unguarded
 pub mod Loops
 pub mod Fitting
 pub mod Chains
+pub mod Gullets

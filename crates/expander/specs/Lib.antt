@@ -7,3 +7,4 @@ pub mod Plain
 pub mod Steps
 pub mod Expansion
 pub mod Holding
+pub mod GulletFaults

@@ -169,7 +169,7 @@ fn expand_next<F: Files>(
 /// Returns the next unexpandable token: tokens at the front are expanded until one isn't
 /// expandable.
 #[tactic(auto, using(crate::proofs::Fitting::fit_still, crate::proofs::Fitting::fit_relax, crate::proofs::Chains::goes_then))]
-pub fn next_token<F: Files>(
+pub(crate) fn next_token<F: Files>(
     alloc: Global,
     mouth: &mut Mouth,
     files: &mut F,

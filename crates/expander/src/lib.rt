@@ -6,10 +6,13 @@ mod actions;
 mod conditionals;
 mod expansion;
 mod fault;
+mod gullet;
+mod gullet_fault;
 mod laws;
 mod plain;
 mod steps;
 
-pub use expansion::next_token;
 pub use fault::StepFault;
+pub use gullet::Gullet;
+pub use gullet_fault::GulletFault;
 pub use laws::expansion_is_its_steps;
