@@ -1,5 +1,5 @@
 -- An environment stays fit for expansion as names come.
-use Rattle.std.proofs.Common.{◌≡◌, ℕ, List, [], ◌∷◌, Option, Some, None, IfSome, arith}
+use Rattle.std.proofs.Common.{◌≡◌, ℕ, List, [], ◌∷◌, Option, Some, None, IfSome, arith, lit≤, Bool, Ok}
 use Rattle.tok_lists.specs.declared.spelling.Spelling.{Spelling}
 use Rattle.tok_lists.specs.declared.token.Token.{Token}
 use Rattle.tok_lists.specs.Names.{Grew, AreHeld}
@@ -7,11 +7,14 @@ use Rattle.tok_lists.proofs.Growing.{held_still, all_held_still, grew_longer}
 use Rattle.env_groups.specs.declared.meaning.MacroDef.{MacroDef}
 use Rattle.env_groups.specs.declared.meaning.Meaning.{Meaning}
 use Rattle.env_groups.specs.declared.meaning.Meaning.TheVariants as meanings
-use Rattle.env_groups.specs.Environments.{Environment, Nest, meaning_at}
+use Rattle.env_groups.specs.Environments.{Environment, Nest, start, meaning_at, meaning_set, toks_set, group_opened, group_closed}
 use Rattle.env_groups.specs.StartMeanings.{primitive_or_none, start_prims}
 use Rattle.env_groups.specs.declared.prim.PrimitiveName.{PrimitiveName}
 use Rattle.env_groups.specs.Laws.{HaveValues}
-use Rattle.env_groups.proofs.Keeping.{meaning_has}
+use Rattle.env_groups.proofs.Keeping.{meaning_has, start_has, meaning_keeps, toks_keeps, open_keeps, close_keeps}
+use Rattle.env_groups.specs.declared.key.ToksKey.{ToksKey}
+use Rattle.env_groups.specs.declared.group.GroupKind.{GroupKind}
+use Rattle.tok_lists.specs.StartNames.{start_names}
 use Rattle.std.specs.Prelude.{slice_get}
 use Rattle.tok_lists.specs.declared.token.Token.TheVariants as tokens
 use Rattle.expander.specs.declared.action.Front.TheVariants as fronts
@@ -88,3 +91,25 @@ call_fit names nest (tokens.Ja cell) d is fit = absurd cc
 call_fit names nest (tokens.Name name) d is fit = front_fit names (meaning_at nest name.0) d is (meaning_fit names nest name.0 fit)
 call_fit names nest (tokens.Kept name) d is fit = absurd cc
 call_fit names nest (tokens.Param n) d is fit = absurd cc
+
+-- ---- what keeps an environment fit
+
+pub fit_at_start : AreFit start_names start
+unfolding AreFit
+fit_at_start = (lit≤ tt, start_has (IsFit start_names) (AreHeld start_names) (λ _. Unit {0}))
+
+pub fit_after_meaning : (names : List Spelling) (nest : Nest) (name : ℕ) (value : Meaning) (is_global : Bool) → IsFit names value → AreFit names nest → AreFit names (meaning_set nest name value is_global)
+unfolding AreFit
+fit_after_meaning names nest name value is_global of fit = (fit.0, meaning_keeps (IsFit names) (AreHeld names) (λ _. Unit {0}) nest name value is_global of fit.1)
+
+pub fit_after_toks : (names : List Spelling) (old new : Nest) (key : ToksKey) (value : List Token) (is_global : Bool) → toks_set old key value is_global ≡ Ok new → AreHeld names value → AreFit names old → AreFit names new
+unfolding AreFit
+fit_after_toks names old new key value is_global is of fit = (fit.0, toks_keeps (IsFit names) (AreHeld names) (λ _. Unit {0}) old new key value is_global is of fit.1)
+
+pub fit_after_opening : (names : List Spelling) (old new : Nest) (kind : GroupKind) → group_opened old kind ≡ Ok new → AreFit names old → AreFit names new
+unfolding AreFit
+fit_after_opening names old new kind is fit = (fit.0, open_keeps (IsFit names) (AreHeld names) (λ _. Unit {0}) old new kind is fit.1)
+
+pub fit_after_closing : (names : List Spelling) (old new : Nest) (kind : GroupKind) → group_closed old kind ≡ Ok new → AreFit names old → AreFit names new
+unfolding AreFit
+fit_after_closing names old new kind is fit = (fit.0, close_keeps (IsFit names) (AreHeld names) (λ _. Unit {0}) old new kind is fit.1)

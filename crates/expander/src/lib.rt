@@ -15,4 +15,4 @@ mod steps;
 pub use fault::StepFault;
 pub use gullet::Gullet;
 pub use gullet_fault::GulletFault;
-pub use laws::expansion_is_its_steps;
+pub use laws::{environments_stay_fit, expansion_is_its_steps};
