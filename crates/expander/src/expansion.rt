@@ -179,8 +179,8 @@ pub(crate) fn next_token<F: Files>(
     requires readable { IsReadable mouth.old }
     requires fit { AreFit mouth.old.names env.old }
     ensures exact { AreTold mouth.old (F.state files.old)
-        → AgreesAt (λ token. (token, world (reading mouth.new (F.state files.new)) env.new)) step_cause
-        mouth.new result (run Next
+        → AgreesAt (λ token. (token, world (reading mouth.new (F.state files.new)) env.new))
+        step_cause mouth.new result (run Next
         (world (reading mouth.old (F.state files.old)) env.old)) }
     ensures goes { Goes mouth.old (F.state files.old) mouth.new (F.state files.new) }
     ensures readable { OnOk result (IsReadable mouth.new) }
