@@ -11,6 +11,8 @@ mod gullet_fault;
 mod laws;
 mod plain;
 mod steps;
+#[cfg(test)]
+mod tests;
 
 pub use fault::StepFault;
 pub use gullet::Gullet;

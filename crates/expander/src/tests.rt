@@ -1,0 +1,198 @@
+//! Sources that are expanded, in memory.
+
+ghost use Rattle.std.specs.Prelude.{◌≡◌};
+ghost use Rattle.tok_lists.specs.StartNames.{start_names};
+ghost use Rattle.mouth.specs.Keeping.{AreOpen, IsReadable};
+ghost use Rattle.expander.specs.Holding.{AreFit};
+
+use crate::{Gullet, GulletFault, environments_stay_fit};
+use env_groups::Env;
+use input_codings::Coding;
+use std::alloc::Global;
+use std::test::Fail;
+use tok_lists::{NameNo, Token, Tokens};
+use ts_base::NoMemory;
+use ts_outside::{FileName, Files, MemFile, MemFiles};
+
+const SPACE: Token = Token::Char(b' ', 10);
+
+const fn letter(code: u8) -> Token {
+    Token::Char(code, 11)
+}
+
+const fn other(code: u8) -> Token {
+    Token::Char(code, 12)
+}
+
+// Gives the tokens up to the first fault, at most so many.
+fn expand_all<F: Files>(
+    gullet: &mut Gullet,
+    files: &mut F,
+    env: &mut Env,
+    tokens: &mut Tokens,
+) -> Result<(), GulletFault>
+    requires opened { AreOpen gullet.old (F.state files.old) }
+    requires readable { IsReadable gullet.old }
+    requires fit { AreFit gullet.old.names env.old }
+    ensures opened { AreOpen gullet.new (F.state files.new) }
+{
+    for _ in 0..20 {
+        let token = gullet.next(files, env)?;
+        if tokens.push(token).is_err() {
+            return Err(GulletFault::NoMemory);
+        }
+    }
+    Ok(())
+}
+
+// The line up to which a source was read, and why it went no further.
+#[derive(Drop)]
+struct Ending {
+    fault: Option<GulletFault>,
+    line: u32,
+}
+
+// Expands a source whose file is open, and closes it.
+fn ending_of<F: Files>(
+    gullet: &mut Gullet,
+    files: &mut F,
+    env: &mut Env,
+    tokens: &mut Tokens,
+) -> Result<Ending, NoMemory>
+    requires opened { AreOpen gullet.old (F.state files.old) }
+    requires readable { IsReadable gullet.old }
+    requires fit { AreFit gullet.old.names env.old }
+    ensures opened { AreOpen gullet.new (F.state files.new) }
+{
+    let fault = expand_all(gullet, files, env, tokens).err();
+    let line = gullet.place()?.line;
+    Ok(Ending { fault, line })
+}
+
+// Expands the source of a file that is held.
+fn expand_file<F: Files>(
+    alloc: Global,
+    files: &mut F,
+    env: &mut Env,
+    budget: u32,
+    tokens: &mut Tokens,
+) -> Result<Ending, Fail>
+    requires fit { AreFit start_names env.old }
+{
+    let name = FileName::new(alloc, b"a").or(Err("name"))?;
+    let mut gullet = Gullet::start(alloc, files, &name, Coding::Euc, budget).or(Err("start"))?;
+    let ending = ending_of(&mut gullet, files, env, tokens).or(Err("memory"))?;
+    gullet.close_all(files);
+    Ok(ending)
+}
+
+// Whether a source gives these tokens, and then this fault at this line.
+fn is_expanded(alloc: Global, env: &mut Env, row: &Row) -> Result<bool, Fail>
+    requires fit { AreFit start_names env.old }
+{
+    let mut files = held(alloc, row.source).or(Err("memory"))?;
+    let mut tokens = Tokens::new(alloc);
+    let ending = expand_file(alloc, &mut files, env, row.budget, &mut tokens)?;
+    Ok(
+        ending.fault == Some(row.fault)
+            && ending.line == row.line
+            && tokens.as_slice() == row.tokens,
+    )
+}
+
+fn held(alloc: Global, source: &[u8]) -> Result<MemFiles, NoMemory> {
+    let file = MemFile {
+        name: FileName::new(alloc, b"a").or(Err(NoMemory))?,
+        bytes: source.to_vec(alloc)?,
+    };
+    Ok(MemFiles::new(
+        alloc,
+        vec![in alloc; file]?,
+        vec![in alloc; 1]?,
+        Vec::new(alloc),
+    ))
+}
+
+#[derive(Clone, Copy)]
+struct Row<'a> {
+    source: &'a [u8],
+    budget: u32,
+    tokens: &'a [Token],
+    fault: GulletFault,
+    line: u32,
+}
+
+// The number of the first row that comes to something else.
+fn first_wrong(alloc: Global, rows: &[Row]) -> Result<Option<usize>, Fail> {
+    environments_stay_fit();
+    for i in 0..rows.len() {
+        let mut env = Env::new(alloc).or(Err("memory"))?;
+        if !is_expanded(alloc, &mut env, &rows[i])? {
+            return Ok(Some(i));
+        }
+    }
+    Ok(None)
+}
+
+#[test]
+fn primitives_are_expanded(rt: HostRuntime) -> Result<(), Fail> {
+    let rows = [
+        Row {
+            source: b"\\iftrue a\\else b\\fi c\n",
+            budget: 3,
+            tokens: &[letter(b'a'), letter(b'c'), SPACE],
+            fault: GulletFault::NoEnd,
+            line: 1,
+        },
+        Row {
+            source: b"\n\\iffalse a\\iftrue\\else\\fi\\else b\\fi\n",
+            budget: 1,
+            tokens: &[Token::Name(NameNo(72)), letter(b'b')],
+            fault: GulletFault::Budget,
+            line: 2,
+        },
+        Row {
+            source: b"\\string\\fi\\noexpand\\fi\\noexpand x\\q",
+            budget: 3,
+            tokens: &[
+                other(b'\\'),
+                other(b'f'),
+                other(b'i'),
+                Token::Kept(NameNo(15)),
+                letter(b'x'),
+            ],
+            fault: GulletFault::Undefined,
+            line: 1,
+        },
+        Row {
+            source: b"\\expandafter x\\ifhmode y\\else z\\endinput\\fi\n\\q",
+            budget: 9,
+            tokens: &[letter(b'x'), letter(b'z')],
+            fault: GulletFault::NoEnd,
+            line: 1,
+        },
+        Row {
+            source: b"\\ifydir\\ifvmode\\ifinner\\else x\\fi\\fi\\fi\\else",
+            budget: 9,
+            tokens: &[letter(b'x')],
+            fault: GulletFault::ExtraCond,
+            line: 1,
+        },
+        Row {
+            source: b"\\iffalse\\or\\fi",
+            budget: 9,
+            tokens: &[],
+            fault: GulletFault::ExtraCond,
+            line: 1,
+        },
+        Row {
+            source: b"\\iftrue\\else x\n",
+            budget: 9,
+            tokens: &[],
+            fault: GulletFault::FileEnded,
+            line: 1,
+        },
+    ];
+    assert_eq!(rt; first_wrong(rt.alloc(), &rows)?, None);
+    Ok(())
+}
