@@ -10,19 +10,9 @@ use env_groups::Env;
 use input_codings::Coding;
 use std::alloc::Global;
 use std::test::Fail;
-use tok_lists::{NameNo, Token, Tokens};
+use tok_lists::{Token, Tokens};
 use ts_base::NoMemory;
 use ts_outside::{FileName, Files, MemFile, MemFiles};
-
-const SPACE: Token = Token::Char(b' ', 10);
-
-const fn letter(code: u8) -> Token {
-    Token::Char(code, 11)
-}
-
-const fn other(code: u8) -> Token {
-    Token::Char(code, 12)
-}
 
 // Gives the tokens up to the first fault, at most so many.
 fn expand_all<F: Files>(
@@ -86,6 +76,24 @@ fn expand_file<F: Files>(
     Ok(ending)
 }
 
+fn text_of(alloc: Global, tokens: &Tokens) -> Result<Vec<u8>, NoMemory> {
+    let mut text = Vec::new(alloc);
+    for token in tokens.as_slice() {
+        let (mark, code) = match token {
+            Token::Char(code, 12) => (b'=', *code),
+            Token::Char(code, _) => (0, *code),
+            Token::Name(name) => (b'N', (name.0 % 256) as u8),
+            Token::Kept(name) => (b'K', (name.0 % 256) as u8),
+            Token::Ja(_) | Token::Param(_) => (0, b'?'),
+        };
+        if mark != 0 {
+            text.push(mark)?;
+        }
+        text.push(code)?;
+    }
+    Ok(text)
+}
+
 // Whether a source gives these tokens, and then this fault at this line.
 fn is_expanded(alloc: Global, env: &mut Env, row: &Row) -> Result<bool, Fail>
     requires fit { AreFit start_names env.old }
@@ -93,11 +101,8 @@ fn is_expanded(alloc: Global, env: &mut Env, row: &Row) -> Result<bool, Fail>
     let mut files = held(alloc, row.source).or(Err("memory"))?;
     let mut tokens = Tokens::new(alloc);
     let ending = expand_file(alloc, &mut files, env, row.budget, &mut tokens)?;
-    Ok(
-        ending.fault == Some(row.fault)
-            && ending.line == row.line
-            && tokens.as_slice() == row.tokens,
-    )
+    let text = text_of(alloc, &tokens).or(Err("memory"))?;
+    Ok(ending.fault == Some(row.fault) && ending.line == row.line && text.as_slice() == row.tokens)
 }
 
 fn held(alloc: Global, source: &[u8]) -> Result<MemFiles, NoMemory> {
@@ -113,14 +118,67 @@ fn held(alloc: Global, source: &[u8]) -> Result<MemFiles, NoMemory> {
     ))
 }
 
-#[derive(Clone, Copy)]
-struct Row<'a> {
-    source: &'a [u8],
+struct Row {
+    source: &'static [u8],
     budget: u32,
-    tokens: &'a [Token],
+    // letters alone, other characters after `=`, names and kept names with their number after
+    // `N` and `K`
+    tokens: &'static [u8],
     fault: GulletFault,
     line: u32,
 }
+
+const ROWS: [Row; 7] = [
+    Row {
+        source: b"\\iftrue a\\else b\\fi c\n",
+        budget: 3,
+        tokens: b"ac ",
+        fault: GulletFault::NoEnd,
+        line: 1,
+    },
+    Row {
+        source: b"\n\\iffalse a\\iftrue\\else\\fi\\else b\\fi\n",
+        budget: 1,
+        tokens: b"N\x48b",
+        fault: GulletFault::Budget,
+        line: 2,
+    },
+    Row {
+        source: b"\\string\\fi\\noexpand\\fi\\noexpand x\\q",
+        budget: 3,
+        tokens: b"=\\=f=iK\x0fx",
+        fault: GulletFault::Undefined,
+        line: 1,
+    },
+    Row {
+        source: b"\\expandafter x\\ifhmode y\\else z\\endinput\\fi\n\\q",
+        budget: 9,
+        tokens: b"xz",
+        fault: GulletFault::NoEnd,
+        line: 1,
+    },
+    Row {
+        source: b"\\ifydir\\ifvmode\\ifinner\\else x\\fi\\fi\\fi\\else",
+        budget: 9,
+        tokens: b"x",
+        fault: GulletFault::ExtraCond,
+        line: 1,
+    },
+    Row {
+        source: b"\\iffalse\\or\\fi",
+        budget: 9,
+        tokens: b"",
+        fault: GulletFault::ExtraCond,
+        line: 1,
+    },
+    Row {
+        source: b"\\iftrue\\else x\n",
+        budget: 9,
+        tokens: b"",
+        fault: GulletFault::FileEnded,
+        line: 1,
+    },
+];
 
 // The number of the first row that comes to something else.
 fn first_wrong(alloc: Global, rows: &[Row]) -> Result<Option<usize>, Fail> {
@@ -136,63 +194,6 @@ fn first_wrong(alloc: Global, rows: &[Row]) -> Result<Option<usize>, Fail> {
 
 #[test]
 fn primitives_are_expanded(rt: HostRuntime) -> Result<(), Fail> {
-    let rows = [
-        Row {
-            source: b"\\iftrue a\\else b\\fi c\n",
-            budget: 3,
-            tokens: &[letter(b'a'), letter(b'c'), SPACE],
-            fault: GulletFault::NoEnd,
-            line: 1,
-        },
-        Row {
-            source: b"\n\\iffalse a\\iftrue\\else\\fi\\else b\\fi\n",
-            budget: 1,
-            tokens: &[Token::Name(NameNo(72)), letter(b'b')],
-            fault: GulletFault::Budget,
-            line: 2,
-        },
-        Row {
-            source: b"\\string\\fi\\noexpand\\fi\\noexpand x\\q",
-            budget: 3,
-            tokens: &[
-                other(b'\\'),
-                other(b'f'),
-                other(b'i'),
-                Token::Kept(NameNo(15)),
-                letter(b'x'),
-            ],
-            fault: GulletFault::Undefined,
-            line: 1,
-        },
-        Row {
-            source: b"\\expandafter x\\ifhmode y\\else z\\endinput\\fi\n\\q",
-            budget: 9,
-            tokens: &[letter(b'x'), letter(b'z')],
-            fault: GulletFault::NoEnd,
-            line: 1,
-        },
-        Row {
-            source: b"\\ifydir\\ifvmode\\ifinner\\else x\\fi\\fi\\fi\\else",
-            budget: 9,
-            tokens: &[letter(b'x')],
-            fault: GulletFault::ExtraCond,
-            line: 1,
-        },
-        Row {
-            source: b"\\iffalse\\or\\fi",
-            budget: 9,
-            tokens: &[],
-            fault: GulletFault::ExtraCond,
-            line: 1,
-        },
-        Row {
-            source: b"\\iftrue\\else x\n",
-            budget: 9,
-            tokens: &[],
-            fault: GulletFault::FileEnded,
-            line: 1,
-        },
-    ];
-    assert_eq!(rt; first_wrong(rt.alloc(), &rows)?, None);
+    assert_eq!(rt; first_wrong(rt.alloc(), &ROWS)?, None);
     Ok(())
 }
