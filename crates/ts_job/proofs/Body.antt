@@ -17,13 +17,34 @@ use Rattle.dvi_structure.specs.Structure.{Inside, inside}
 use Rattle.dvi_code.specs.Pages.{Widths, Pen, Spot, spot, drawn, moved, is_in_range, stepped, glyph_set}
 use Rattle.dvi_commands.specs.Spelling.{Spells}
 use Rattle.dvi_code.specs.Reading.{all_inside, Draws}
-use Rattle.dvi_commands.proofs.Writing.{spellings_join, says_push, says_right, says_down, says_set, says_pop}
-use Rattle.dvi_code.proofs.Writing.{bodies_join, nothing_drawn, one_drawn, commands_draw_on}
+use Rattle.dvi_commands.specs.Laws.{SpellingsJoin, SaysPush, SaysPop, SaysEop, SaysRight, SaysDown, SaysSet, SaysFontDef, SaysPost, SaysPostPost}
+use Rattle.dvi_code.specs.Laws.{CommandsLead, BytesLeadOn, CommandsDrawOn, BodiesJoin, BodiesLead, LastPlaced, NothingDrawn, OneDrawn}
 use Rattle.ts_job.specs.declared.writer.page.Glyph.{Glyph}
 use Rattle.ts_job.specs.Written.{right_bytes, down_bytes, set_bytes, glyph_bytes}
 use Rattle.std.specs.Option.{IsSomeAnd}
 use Rattle.ts_geometry.specs.Numbers.{IsWithin, max_dimen}
 use Rattle.ts_job.specs.Meant.{max_coordinate, FitsGlyph, mark_meant}
+
+-- what the meaning of DVI says of bytes and commands, from the laws that the code calls
+pub record DviLaws : Type 0 where
+  pub join : SpellingsJoin
+  pub push : SaysPush
+  pub pop : SaysPop
+  pub eop : SaysEop
+  pub right : SaysRight
+  pub down : SaysDown
+  pub set : SaysSet
+  pub font_def : SaysFontDef
+  pub post : SaysPost
+  pub post_post : SaysPostPost
+  pub lead : CommandsLead
+  pub lead_on : BytesLeadOn
+  pub draw_on : CommandsDrawOn
+  pub bodies : BodiesJoin
+  pub body : BodiesLead
+  pub last : LastPlaced
+  pub none : NothingDrawn
+  pub one : OneDrawn
 
 abbrev pub glyph_said : Glyph → List Command
 glyph_said g = c.push ∷ c.right g.at.x.0 ∷ c.down g.at.y.0 ∷ c.set g.code ∷ c.pop ∷ []
@@ -33,9 +54,9 @@ glyph_said g = c.push ∷ c.right g.at.x.0 ∷ c.down g.at.y.0 ∷ c.set g.code 
 fits_short : (z : Sp) → IsWithin max_coordinate z.0 → FitsSigned w32 z.0
 fits_short z short = omega (arith, ints)
 
-glyph_spelt : (g : Glyph) → FitsGlyph g → Spells (glyph_bytes g) (glyph_said g)
+glyph_spelt : (l : DviLaws) → (g : Glyph) → FitsGlyph g → Spells (glyph_bytes g) (glyph_said g)
 unfolding glyph_bytes
-glyph_spelt g fits =
+glyph_spelt l g fits =
     let rest4 : List ℕ = 142 ∷ [] in
     let rest3 : List ℕ = set_bytes g.code ++ rest4 in
     let rest2 : List ℕ = down_bytes g.at.y ++ rest3 in
@@ -43,26 +64,26 @@ glyph_spelt g fits =
       141 ∷ [],
       rest1,
       refl,
-      says_push,
+      l.push,
       (
         right_bytes g.at.x,
         rest2,
         refl,
-        says_right g.at.x.0 (fits_short g.at.x fits.x),
+        l.right g.at.x.0 (fits_short g.at.x fits.x),
         (
           down_bytes g.at.y,
           rest3,
           refl,
-          says_down g.at.y.0 (fits_short g.at.y fits.y),
-          (set_bytes g.code, rest4, refl, says_set g.code fits.code, (142 ∷ [], [], refl, says_pop, refl)),
+          l.down g.at.y.0 (fits_short g.at.y fits.y),
+          (set_bytes g.code, rest4, refl, l.set g.code fits.code, (142 ∷ [], [], refl, l.pop, refl)),
         ),
       ),
     )
 
-pub glyphs_spelt : (gs : List Glyph) → AllByRecursion FitsGlyph gs → Spells (flat_map glyph_bytes gs) (flat_map glyph_said gs)
-glyphs_spelt [] fits = refl
-glyphs_spelt (g ∷ gs) fits =
-    rw (flat_map-cons glyph_bytes g gs) (spellings_join (glyph_said g) (flat_map glyph_said gs) (glyph_bytes g) (flat_map glyph_bytes gs) (glyph_spelt g fits.0) (glyphs_spelt gs fits.1))
+pub glyphs_spelt : (l : DviLaws) → (gs : List Glyph) → AllByRecursion FitsGlyph gs → Spells (flat_map glyph_bytes gs) (flat_map glyph_said gs)
+glyphs_spelt l [] fits = refl
+glyphs_spelt l (g ∷ gs) fits =
+    rw (flat_map-cons glyph_bytes g gs) (l.join (glyph_said g) (flat_map glyph_said gs) (glyph_bytes g) (flat_map glyph_bytes gs) (glyph_spelt l g fits.0) (glyphs_spelt l gs fits.1))
 
 length-glyph : (g : Glyph) → length (glyph_bytes g) ≡ 15
 unfolding glyph_bytes
@@ -85,10 +106,10 @@ glyph_inside : (fonts : List FontDef) (g : Glyph) → all_inside fonts chosen (g
 unfolding inside
 glyph_inside fonts g = refl
 
-pub glyphs_inside : (fonts : List FontDef) (gs : List Glyph) → all_inside fonts (record { depth = 0; chosen = true }) (flat_map glyph_said gs) ≡ Ok (record { depth = 0; chosen = true })
-glyphs_inside fonts [] = refl
-glyphs_inside fonts (g ∷ gs) =
-    ap (λ (cs : List Command). all_inside fonts chosen cs) (flat_map-cons glyph_said g gs) ∙ bodies_join fonts (glyph_said g) (flat_map glyph_said gs) chosen chosen chosen (glyph_inside fonts g) (glyphs_inside fonts gs)
+pub glyphs_inside : (l : DviLaws) → (fonts : List FontDef) (gs : List Glyph) → all_inside fonts (record { depth = 0; chosen = true }) (flat_map glyph_said gs) ≡ Ok (record { depth = 0; chosen = true })
+glyphs_inside l fonts [] = refl
+glyphs_inside l fonts (g ∷ gs) =
+    ap (λ (cs : List Command). all_inside fonts chosen cs) (flat_map-cons glyph_said g gs) ∙ l.bodies fonts (glyph_said g) (flat_map glyph_said gs) chosen chosen chosen (glyph_inside fonts g) (glyphs_inside l fonts gs)
 
 -- ---- the marks
 
@@ -123,10 +144,10 @@ set_glyph f g (Some w) saved marks fits wide =
     let y : ℤ = g.at.y.0 in
     (x +ℤ w.0, moved_to (pen x y saved (Some f) marks) _ (x +ℤ w.0) y (mark_meant f g ∷ []) (behind x y w.0) (in_range (x +ℤ w.0) (omega (arith, ints, fits.x)) (omega (arith, ints, fits.x))) (in_range y (omega (arith, ints, fits.y)) (omega (arith, ints, fits.y))))
 
-glyph_drawn : (widths : Widths) (fonts : List FontDef) (f : FontDef) (g : Glyph) (marks : List Mark) → FitsGlyph g → IsSomeAnd (widths f g.code) (λ width. IsWithin max_dimen width.0)
+glyph_drawn : (l : DviLaws) → (widths : Widths) (fonts : List FontDef) (f : FontDef) (g : Glyph) (marks : List Mark) → FitsGlyph g → IsSomeAnd (widths f g.code) (λ width. IsWithin max_dimen width.0)
     → Draws widths fonts (pen (pos 0) (pos 0) [] (Some f) marks) (glyph_said g) (pen (pos 0) (pos 0) [] (Some f) (marks ++ mark_meant f g ∷ []))
 unfolding drawn
-glyph_drawn widths fonts f g marks fits wide =
+glyph_drawn l widths fonts f g marks fits wide =
     let x : ℤ = g.at.x.0 in
     let y : ℤ = g.at.y.0 in
     let saved : List Spot = spot (pos 0) (pos 0) Yoko ∷ [] in
@@ -143,16 +164,16 @@ glyph_drawn widths fonts f g marks fits wide =
     let p4 : Pen = pen set.0 y saved font (((marks ++ []) ++ []) ++ mark_meant f g ∷ []) in
     let p5 : Pen = pen (pos 0) (pos 0) [] font (((marks ++ []) ++ []) ++ mark_meant f g ∷ []) in
     let all : Draws widths fonts p0 (glyph_said g) p5 =
-    one_drawn widths fonts p0 p1 _ _ _ refl (one_drawn widths fonts p1 p2 _ _ _ e2 (one_drawn widths fonts p2 p3 _ _ _ e3 (one_drawn widths fonts p3 p4 _ _ _ set.1 (one_drawn widths fonts p4 p5 _ _ _ refl (nothing_drawn widths fonts p5))))) in
+    l.one widths fonts p0 p1 _ _ _ refl (l.one widths fonts p1 p2 _ _ _ e2 (l.one widths fonts p2 p3 _ _ _ e3 (l.one widths fonts p3 p4 _ _ _ set.1 (l.one widths fonts p4 p5 _ _ _ refl (l.none widths fonts p5))))) in
     let same : (marks ++ []) ++ [] ≡ marks = append-nil (marks ++ []) ∙ append-nil marks in
     subst (λ (ms : List Mark). Draws widths fonts p0 (glyph_said g) (pen (pos 0) (pos 0) [] font (ms ++ mark_meant f g ∷ []))) same all
 
-pub glyphs_drawn : (widths : Widths) (fonts : List FontDef) (f : FontDef) (gs : List Glyph) (marks : List Mark) → AllByRecursion FitsGlyph gs → AllByRecursion (λ g. IsSomeAnd (widths f g.code) (λ width. IsWithin max_dimen width.0)) gs
+pub glyphs_drawn : (l : DviLaws) → (widths : Widths) (fonts : List FontDef) (f : FontDef) (gs : List Glyph) (marks : List Mark) → AllByRecursion FitsGlyph gs → AllByRecursion (λ g. IsSomeAnd (widths f g.code) (λ width. IsWithin max_dimen width.0)) gs
     → Draws widths fonts (pen (pos 0) (pos 0) [] (Some f) marks) (flat_map glyph_said gs) (pen (pos 0) (pos 0) [] (Some f) (marks ++ map (mark_meant f) gs))
-glyphs_drawn widths fonts f [] marks fits wide = rw (append-nil marks) (nothing_drawn widths fonts (pen (pos 0) (pos 0) [] (Some f) marks))
-glyphs_drawn widths fonts f (g ∷ gs) marks fits wide =
-    let first = glyph_drawn widths fonts f g marks fits.0 wide.0 in
-    let others = glyphs_drawn widths fonts f gs (marks ++ mark_meant f g ∷ []) fits.1 wide.1 in
-    let all = commands_draw_on widths fonts _ _ _ (glyph_said g) (flat_map glyph_said gs) first others in
+glyphs_drawn l widths fonts f [] marks fits wide = rw (append-nil marks) (l.none widths fonts (pen (pos 0) (pos 0) [] (Some f) marks))
+glyphs_drawn l widths fonts f (g ∷ gs) marks fits wide =
+    let first = glyph_drawn l widths fonts f g marks fits.0 wide.0 in
+    let others = glyphs_drawn l widths fonts f gs (marks ++ mark_meant f g ∷ []) fits.1 wide.1 in
+    let all = l.draw_on widths fonts _ _ _ (glyph_said g) (flat_map glyph_said gs) first others in
     let same : (marks ++ mark_meant f g ∷ []) ++ map (mark_meant f) gs ≡ marks ++ mark_meant f g ∷ map (mark_meant f) gs = append_assoc marks (mark_meant f g ∷ []) (map (mark_meant f) gs) in
     rw (flat_map-cons glyph_said g gs) (subst (λ (ms : List Mark). Draws widths fonts (pen (pos 0) (pos 0) [] (Some f) marks) (glyph_said g ++ flat_map glyph_said gs) (pen (pos 0) (pos 0) [] (Some f) ms)) same all)

@@ -1,8 +1,8 @@
 -- The first line of a file, as it is read.
-use Rattle.std.proofs.Common.{◌≡◌, List, Option, Result, Ok, refl}
+use Rattle.std.proofs.Common.{◌≡◌, List, Option, Ok, refl}
 use Rattle.jis_codes.specs.declared.character.Char.{Char}
 use Rattle.ts_base.specs.Agreement.{AgreesFault}
-use Rattle.ts_base.proofs.Composing.{fault_agrees, first_refuses, second_refuses}
+use Rattle.ts_base.proofs.Composing.{fault_agrees, first_refuses}
 use Rattle.ts_outside.specs.States.{Held}
 use Rattle.ts_outside.specs.Reading.{bytes_of}
 use Rattle.input_codings.specs.declared.fault.LineFault.{LineFault}

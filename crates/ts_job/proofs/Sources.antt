@@ -1,5 +1,5 @@
 -- Sources and their fonts, as they are read.
-use Rattle.std.proofs.Common.{◌≡◌, ◌≢◌, ℕ, ◌-◌, ◌/◌, ◌%◌, ◌≤◌, List, length, take, nat_lt, not, ◌&&◌, Bool, true, false, Option, Some, None, Result, Ok, Err, refl, ap, arith, cond}
+use Rattle.std.proofs.Common.{◌≡◌, ℕ, ◌-◌, ◌/◌, ◌%◌, ◌≤◌, List, length, take, nat_lt, not, ◌&&◌, Bool, true, false, Option, Some, None, Result, Ok, Err, refl, arith, cond}
 use Rattle.std.specs.Prelude.{nat_le}
 use Rattle.std.specs.Option.{ok_or}
 use Rattle.std.proofs.lemmas.Bool.Decides.{nat_tests}

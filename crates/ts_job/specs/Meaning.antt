@@ -22,7 +22,6 @@ use Rattle.metric_words.specs.Lengths.{begins_as_jfm}
 use Rattle.jfm_load.specs.Metrics.{Metric, metric_of, class_of, measures_of}
 use Rattle.dvi_commands.specs.declared.font.FontDef.{FontDef}
 use Rattle.dvi_code.specs.declared.page.DviPage.{DviPage}
-use Rattle.ts_job.specs.declared.fault.FaultKind.{FaultKind}
 use Rattle.ts_job.specs.declared.fault.FaultKind.TheVariants.{FileMissing, FontBad, FormNotBuilt, BadByte, LineTooLong, TooManyLines}
 use Rattle.ts_job.specs.declared.stop.Stop.{Stop}
 use Rattle.ts_job.specs.declared.stop.Stop.TheVariants as stops

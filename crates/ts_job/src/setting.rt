@@ -18,6 +18,7 @@ ghost use Rattle.ts_job.specs.Setting.{most_of_one, most_of_all, IsSound, HasCel
 use crate::form::Form;
 use crate::writer::{Glyph, dvi_of};
 use dvi_code::FontDef;
+use dvi_code::laws::short_names_are_sound;
 use jfm_load::Japanese;
 use jis_codes::{Cell, to_jis};
 use std::alloc::{AllocError, Global};
@@ -100,6 +101,7 @@ fn font_of(alloc: Global, form: &Form, metric: &Japanese) -> Result<FontDef, All
     ensures font { IfOk result (λ font. font ≡ font_def (seen form.now) metric.now) }
     ensures sound { IfOk result (λ font. is_sound_font font ≡ true) }
 {
+    short_names_are_sound();
     match FileName::new(alloc, &form.name) {
         Ok(name) => Ok(FontDef {
             number: 0,

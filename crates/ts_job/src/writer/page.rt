@@ -12,7 +12,12 @@ use crate::writer::opcode;
 use crate::writer::piece::{
     put_bop, put_definition, put_fill, put_post, put_post_post, put_preamble,
 };
+use dvi_code::laws::{
+    bodies_lead_on, bytes_lead_on, commands_draw, commands_draw_on, commands_lead,
+    the_last_is_placed,
+};
 use dvi_code::{FontDef, put_short, put_signed};
+use dvi_commands::laws::{bytes_say_commands, spellings_join};
 use std::alloc::{AllocError, Global};
 use ts_geometry::{Point, Sp};
 
@@ -115,6 +120,14 @@ pub(crate) fn dvi_of(
     ensures pages { IfOk result (λ v. (widths : Widths) → HasWidths widths font.now glyphs.now
         → file_pages widths v.items ≡ Ok (page_meant font.now glyphs.now ∷ [])) }
 {
+    bytes_say_commands();
+    spellings_join();
+    commands_lead();
+    bytes_lead_on();
+    bodies_lead_on();
+    the_last_is_placed();
+    commands_draw();
+    commands_draw_on();
     let mut out = Vec::new(alloc);
     put_preamble(&mut out)?;
     put_page(&mut out, font, glyphs)?;
