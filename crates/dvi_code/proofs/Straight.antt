@@ -119,7 +119,7 @@ abbrev PagesAfter : Widths → Shape → List FontDef → List Sheet → List Pl
 PagesAfter widths t fonts sheets ps parts.ahead = Between widths t sheets ps
 PagesAfter widths t fonts sheets ps parts.between = Between widths t sheets ps
 PagesAfter widths t fonts sheets ps (parts.within counts body places i) = Within widths t fonts sheets ps counts body places
-PagesAfter widths t fonts sheets ps (parts.behind post) = Same t sheets
+PagesAfter widths t fonts sheets ps (parts.after_post post) = Same t sheets
 PagesAfter widths t fonts sheets ps parts.ended = Same t sheets
 
 record Follows (widths : Widths) (t s : Shape) (ps : List Placed) : Type 0 where
@@ -188,12 +188,12 @@ defines_within widths t last fonts sheets counts body places i u at d ps e f =
       };
     }
 
-defines_behind : (widths : Widths) (t : Shape) (last : ℤ) (fonts : List FontDef) (sheets : List Sheet) (post : ℕ) (u : Shape) (at : ℕ) (d : c.Definition) (ps : List Placed)
-    → (defined fonts (font_defined d) >>= λ fs. Ok (shape last fs sheets (parts.behind post))) ≡ Ok u → Follows widths t u ps → Follows widths t (shape last fonts sheets (parts.behind post)) (said_at at (c.font_def d) ps)
-defines_behind widths t last fonts sheets post u at d ps e f =
-    let w = with_more widths t last fonts sheets (parts.behind post) u (defined fonts (font_defined d)) e in
+defines_after_post : (widths : Widths) (t : Shape) (last : ℤ) (fonts : List FontDef) (sheets : List Sheet) (post : ℕ) (u : Shape) (at : ℕ) (d : c.Definition) (ps : List Placed)
+    → (defined fonts (font_defined d) >>= λ fs. Ok (shape last fs sheets (parts.after_post post))) ≡ Ok u → Follows widths t u ps → Follows widths t (shape last fonts sheets (parts.after_post post)) (said_at at (c.font_def d) ps)
+defines_after_post widths t last fonts sheets post u at d ps e f =
+    let w = with_more widths t last fonts sheets (parts.after_post post) u (defined fonts (font_defined d)) e in
     let more = defined_adds fonts w.0 (font_defined d) w.1 in
-    let g : Follows widths t (shape last w.0 sheets (parts.behind post)) ps = subst (λ (x : Shape). Follows widths t x ps) (sym w.2) f in
+    let g : Follows widths t (shape last w.0 sheets (parts.after_post post)) ps = subst (λ (x : Shape). Follows widths t x ps) (sym w.2) f in
     record {
       added = more.0 ++ g.added;
       fonts_are = g.fonts_are ∙ ap (λ (x : List FontDef). x ++ g.added) more.1 ∙ append_assoc fonts more.0 g.added;
@@ -216,7 +216,7 @@ begins widths t last fonts sheets at counts back ps f =
     }
 
 posts : (widths : Widths) (t : Shape) (last : ℤ) (fonts : List FontDef) (sheets : List Sheet) (at post : ℕ) (a : c.Postamble) (ps : List Placed)
-    → Follows widths t (shape last fonts sheets (parts.behind post)) ps → Follows widths t (shape last fonts sheets parts.between) (said_at at (c.post a) ps)
+    → Follows widths t (shape last fonts sheets (parts.after_post post)) ps → Follows widths t (shape last fonts sheets parts.between) (said_at at (c.post a) ps)
 unfolding pages_on pages_of
 posts widths t last fonts sheets at post a ps f =
     record { added = f.added; fonts_are = f.fonts_are; pages = record { more = []; sheets_are = f.pages.sheets_are ∙ sym (append-nil sheets); reads = λ r. refl } }
@@ -244,12 +244,12 @@ start_follows widths t last fonts sheets u at (c.pre p) ps e f =
 start_follows widths t last fonts sheets u at _ ps e f = absurd cc
 
 back_follows : (widths : Widths) (t : Shape) (last : ℤ) (fonts : List FontDef) (sheets : List Sheet) (post : ℕ) (u : Shape) (at : ℕ) (cmd : Command) (ps : List Placed)
-    → at_back (shape last fonts sheets (parts.behind post)) post cmd ≡ Ok u → Follows widths t u ps → Follows widths t (shape last fonts sheets (parts.behind post)) (said_at at cmd ps)
+    → at_back (shape last fonts sheets (parts.after_post post)) post cmd ≡ Ok u → Follows widths t u ps → Follows widths t (shape last fonts sheets (parts.after_post post)) (said_at at cmd ps)
 unfolding at_back
-back_follows widths t last fonts sheets post u at (c.font_def d) ps e f = defines_behind widths t last fonts sheets post u at d ps e f
+back_follows widths t last fonts sheets post u at (c.font_def d) ps e f = defines_after_post widths t last fonts sheets post u at d ps e f
 back_follows widths t last fonts sheets post u at c.nop ps e f =
-    let same : shape last fonts sheets (parts.behind post) ≡ u = cc in
-    let g : Follows widths t (shape last fonts sheets (parts.behind post)) ps = subst (λ (x : Shape). Follows widths t x ps) (sym same) f in
+    let same : shape last fonts sheets (parts.after_post post) ≡ u = cc in
+    let g : Follows widths t (shape last fonts sheets (parts.after_post post)) ps = subst (λ (x : Shape). Follows widths t x ps) (sym same) f in
     record { added = g.added; fonts_are = g.fonts_are; pages = record { sheets_are = g.pages.sheets_are } }
 back_follows widths t last fonts sheets post u at (c.post_post pointer id) ps e f =
     let g : Follows widths t (shape last fonts sheets parts.ended) ps = subst (λ (x : Shape). Follows widths t x ps) (sym (if_two (int_eq pointer (pos post)) _ _ u _ _ e)) f in
@@ -356,7 +356,7 @@ step_follows : (widths : Widths) (t : Shape) (last : ℤ) (fonts : List FontDef)
 step_follows widths t last fonts sheets parts.ahead u at cmd ps e f = start_follows widths t last fonts sheets u at cmd ps e f
 step_follows widths t last fonts sheets parts.between u at cmd ps e f = gap_follows widths t last fonts sheets u at cmd ps e f
 step_follows widths t last fonts sheets (parts.within counts body places i) u at cmd ps e f = within_follows widths t last fonts sheets counts body places i u at cmd ps e f
-step_follows widths t last fonts sheets (parts.behind post) u at cmd ps e f = back_follows widths t last fonts sheets post u at cmd ps e f
+step_follows widths t last fonts sheets (parts.after_post post) u at cmd ps e f = back_follows widths t last fonts sheets post u at cmd ps e f
 step_follows widths t last fonts sheets parts.ended u at cmd ps e f = absurd cc
 
 fill_reads : (widths : Widths) (fonts : List FontDef) (r : Reader) (at : ℕ) (bytes : List ℕ) (ps : List Placed) → pages_on widths fonts r (record { at = at; item = fill bytes } ∷ ps) ≡ pages_on widths fonts r ps
@@ -376,7 +376,7 @@ fill_follows widths t last fonts sheets (parts.within counts body places i) at b
       fonts_are = f.fonts_are;
       pages = record { rest = p.rest; rest_places = p.rest_places; later_fonts = p.later_fonts; others = p.others; sheets_are = p.sheets_are; reads = λ pen. fill_reads widths t.fonts (reader counts pen) at bytes ps ∙ p.reads pen };
     }
-fill_follows widths t last fonts sheets (parts.behind post) at bytes ps f = record { added = f.added; fonts_are = f.fonts_are; pages = f.pages }
+fill_follows widths t last fonts sheets (parts.after_post post) at bytes ps f = record { added = f.added; fonts_are = f.fonts_are; pages = f.pages }
 fill_follows widths t last fonts sheets parts.ended at bytes ps f = record { added = f.added; fonts_are = f.fonts_are; pages = f.pages }
 
 pub filled_same : {A : Type 0} (x y : A) (at count : ℕ) (bytes : List ℕ) → parts.filled x at count bytes ≡ Ok y → x ≡ y
@@ -410,7 +410,7 @@ at_end : (widths : Widths) (last : ℤ) (fonts : List FontDef) (sheets : List Sh
 at_end widths last fonts sheets parts.ahead e = absurd cc
 at_end widths last fonts sheets parts.between e = absurd cc
 at_end widths last fonts sheets (parts.within counts body places i) e = absurd cc
-at_end widths last fonts sheets (parts.behind post) e = absurd cc
+at_end widths last fonts sheets (parts.after_post post) e = absurd cc
 at_end widths last fonts sheets parts.ended e = record { added = []; fonts_are = sym (append-nil fonts); pages = record { sheets_are = refl } }
 
 follows : (widths : Widths) (t : Shape) → t.phase ≡ parts.ended → (ps : List Placed) (s : Shape) → walk s ps ≡ done t → Follows widths t s ps
@@ -434,7 +434,7 @@ unfolding at_start at_gap in_page at_back inside
 post_post_ends s u parts.ahead at (c.post_post p id) last e = absurd cc
 post_post_ends s u parts.between at (c.post_post p id) last e = absurd cc
 post_post_ends s u (parts.within counts body places i) at (c.post_post p id) last e = absurd cc
-post_post_ends s u (parts.behind post) at (c.post_post p id) last e = ap (λ (x : Shape). x.phase) (sym (if_two (int_eq p (pos post)) _ _ u _ _ e))
+post_post_ends s u (parts.after_post post) at (c.post_post p id) last e = ap (λ (x : Shape). x.phase) (sym (if_two (int_eq p (pos post)) _ _ u _ _ e))
 post_post_ends s u parts.ended at cmd last e = absurd cc
 post_post_ends s u phase at cmd last e = absurd cc
 

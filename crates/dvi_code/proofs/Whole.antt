@@ -10,7 +10,7 @@ use Rattle.dvi_commands.specs.Fields.{Field}
 use Rattle.dvi_commands.specs.Commands as c
 use Rattle.dvi_commands.specs.Commands.{Command, command}
 use Rattle.dvi_structure.specs.Places.{Item, Placed, said, bad, fill, is_last, placed_first, placed}
-use Rattle.dvi_structure.specs.Structure.{Shape, Sheet, Phase, ahead, between, within, behind, ended, Inside, start, at_start, at_gap, in_page, at_back, obeyed, closed, placed_at, filled, next_shape, walk, walked_on, walked, Walked, answer, structure, whole_sheets}
+use Rattle.dvi_structure.specs.Structure.{Shape, Sheet, Phase, ahead, between, within, after_post, ended, Inside, start, at_start, at_gap, in_page, at_back, obeyed, closed, placed_at, filled, next_shape, walk, walked_on, walked, Walked, answer, structure, whole_sheets}
 use Rattle.dvi_code.specs.Pages.{Widths, page_of, pages_of, file_pages, whole_pages}
 use Rattle.dvi_commands.proofs.Writing.{commands_stay}
 use Rattle.dvi_code.proofs.Steps.{bound}
@@ -78,7 +78,7 @@ obeyed_grows : (s : Shape) (phase : Phase) (at : ℕ) (cmd : Command) → Keeps 
 obeyed_grows s ahead at cmd = start_grows s cmd
 obeyed_grows s between at cmd = gap_grows s at cmd
 obeyed_grows s (within counts body places i) at cmd = page_grows s counts body places i at cmd
-obeyed_grows s (behind post) at cmd = back_grows s post cmd
+obeyed_grows s (after_post post) at cmd = back_grows s post cmd
 obeyed_grows s ended at cmd = stops s _
 
 placed_grows : (s : Shape) (at : ℕ) (r : Result Shape DviKind) → Keeps s r → Keeps s (placed_at at r)

@@ -12,7 +12,7 @@ use Rattle.dvi_structure.specs.Places.{Item, Placed, said, bad, fill, placed}
 use Rattle.dvi_structure.specs.Structure as parts
 use Rattle.dvi_structure.specs.Structure.{Inside, Shape, Phase, inside, selected, popped, closed, obeyed, at_start, at_gap, in_page, at_back, defined, placed_at, next_shape, walk, walked_on, walked, structure, answer, fault_at, filled, file_fonts}
 use Rattle.dvi_structure.specs.Outline as o
-use Rattle.dvi_structure.specs.Outline.{Stage, Standing, Outline, stood_ahead, stood_between, stood_within, stood_behind, outlined, next_outline, outline_walk, start_outline, outline_fonts}
+use Rattle.dvi_structure.specs.Outline.{Stage, Standing, Outline, stood_ahead, stood_between, stood_within, stood_after_post, outlined, next_outline, outline_walk, start_outline, outline_fonts}
 
 pub selected_by : (i : Inside) (r : Option FontDef) → selected i r ≡ cond (is_some r) (Ok (record { depth = i.depth; chosen = true })) (Err kinds.FontUndefined)
 selected_by i None = refl
@@ -24,7 +24,7 @@ abbrev stage_seen : Phase → Stage
 stage_seen parts.ahead = o.ahead
 stage_seen parts.between = o.between
 stage_seen (parts.within counts body places i) = o.within i
-stage_seen (parts.behind post) = o.behind post
+stage_seen (parts.after_post post) = o.after_post post
 stage_seen parts.ended = o.ended
 
 abbrev standing_seen : Shape → Standing
@@ -91,8 +91,8 @@ page_agrees s counts body places i at (c.font_def d) e = absurd (e d refl)
 page_agrees s counts body places i at c.eop e = closed_agrees s _ i.depth
 page_agrees s counts body places i at cmd e = inside_agrees s counts _ _ (inside s.fonts i cmd)
 
-back_agrees : (s : Shape) (post : ℕ) (cmd : Command) → ((d : Definition) → cmd ≡ c.font_def d → ⊥) → Agree (at_back s post cmd) (kept s.fonts (stood_behind (standing_seen s) post cmd))
-unfolding at_back stood_behind
+back_agrees : (s : Shape) (post : ℕ) (cmd : Command) → ((d : Definition) → cmd ≡ c.font_def d → ⊥) → Agree (at_back s post cmd) (kept s.fonts (stood_after_post (standing_seen s) post cmd))
+unfolding at_back stood_after_post
 back_agrees s post (c.font_def d) e = absurd (e d refl)
 back_agrees s post c.nop e = agree_ok s
 back_agrees s post (c.post_post at id) e = agree_two _ _ s.fonts _ _ _ _ refl
@@ -102,7 +102,7 @@ agrees : (s : Shape) (phase : Phase) (at : ℕ) (cmd : Command) → ((d : Defini
 agrees s parts.ahead at cmd e = start_agrees s cmd e
 agrees s parts.between at cmd e = gap_agrees s at cmd e
 agrees s (parts.within counts body places i) at cmd e = page_agrees s counts body places i at cmd e
-agrees s (parts.behind post) at cmd e = back_agrees s post cmd e
+agrees s (parts.after_post post) at cmd e = back_agrees s post cmd e
 agrees s parts.ended at cmd e = agree_err _ s.fonts
 
 definition_agrees : (s : Shape) (phase : Phase) (at : ℕ) (d : Definition) →
@@ -111,7 +111,7 @@ unfolding at_start at_gap in_page at_back
 definition_agrees s parts.ahead at d = record { is = refl }
 definition_agrees s parts.between at d = agree_fonts s (defined s.fonts (font_defined d))
 definition_agrees s (parts.within counts body places i) at d = agree_fonts s (defined s.fonts (font_defined d))
-definition_agrees s (parts.behind post) at d = agree_fonts s (defined s.fonts (font_defined d))
+definition_agrees s (parts.after_post post) at d = agree_fonts s (defined s.fonts (font_defined d))
 definition_agrees s parts.ended at d = record { is = refl }
 
 outline_agrees : (s : Shape) (at : ℕ) (cmd : Command) → Agree (obeyed s s.phase at cmd) (outlined (seen s) at cmd)

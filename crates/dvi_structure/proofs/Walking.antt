@@ -126,7 +126,7 @@ unfolding outlined stood_within inside
 set_stands fonts last pages stages.ahead at code e = absurd cc
 set_stands fonts last pages stages.between at code e = absurd cc
 set_stands fonts last pages (stages.within i) at code e = rw e refl
-set_stands fonts last pages (stages.behind post) at code e = absurd cc
+set_stands fonts last pages (stages.after_post post) at code e = absurd cc
 set_stands fonts last pages stages.ended at code e = absurd cc
 
 pub set_walks : (bytes : List ℕ) (at after : ℕ) (o : Outline) (code : ℕ) → set_first (command (drop at bytes)) ≡ Some (code, drop after bytes) → at < after → after ≤ length bytes → has_font o.standing.stage ≡ true

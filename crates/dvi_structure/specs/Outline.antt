@@ -20,7 +20,7 @@ pub data Stage : Type 0 where
   ahead : Stage
   between : Stage
   within : Inside → Stage
-  behind : ℕ → Stage
+  after_post : ℕ → Stage
   ended : Stage
 
 -- the place of the last bop, -1 where there is none, the number of whole pages, and where the next
@@ -50,7 +50,7 @@ stood_between st at (c.bop counts back) = if int_eq back st.last
     else Err kinds.BackPointer
 stood_between st at (c.post p) =
     if int_eq p.back st.last then (if nat_eq p.pages st.pages
-    then Ok (record st { stage = behind at }) else Err kinds.Postamble)
+    then Ok (record st { stage = after_post at }) else Err kinds.Postamble)
     else Err kinds.BackPointer
 stood_between st at _ = Err kinds.Misplaced
 
@@ -62,20 +62,20 @@ unfoldable pub stood_within : List FontDef → Standing → Inside → Command �
 stood_within fonts st i c.eop = page_counted st i.depth
 stood_within fonts st i cmd = inside fonts i cmd >>= λ j. Ok (record st { stage = within j })
 
-unfoldable pub stood_behind : Standing → ℕ → Command → Result Standing DviKind
-stood_behind st post c.nop = Ok st
-stood_behind st post (c.post_post at id) =
+unfoldable pub stood_after_post : Standing → ℕ → Command → Result Standing DviKind
+stood_after_post st post c.nop = Ok st
+stood_after_post st post (c.post_post at id) =
     if int_eq at (pos post) then (if nat_eq id 2 || nat_eq id 3
     then Ok (record st { stage = ended }) else Err kinds.Postamble)
     else Err kinds.BackPointer
-stood_behind st post _ = Err kinds.Misplaced
+stood_after_post st post _ = Err kinds.Misplaced
 
 -- after a command that is no definition
 abbrev pub stood_at : List FontDef → Standing → Stage → ℕ → Command → Result Standing DviKind
 stood_at fonts st ahead at cmd = stood_ahead st cmd
 stood_at fonts st between at cmd = stood_between st at cmd
 stood_at fonts st (within i) at cmd = stood_within fonts st i cmd
-stood_at fonts st (behind post) at cmd = stood_behind st post cmd
+stood_at fonts st (after_post post) at cmd = stood_after_post st post cmd
 stood_at fonts st ended at cmd = Err kinds.Misplaced
 
 abbrev pub stood : List FontDef → Standing → ℕ → Command → Result Standing DviKind
@@ -123,7 +123,7 @@ abbrev pub stage_of : stages.Stage → Stage
 stage_of stage.Ahead = ahead
 stage_of stage.Between = between
 stage_of (stage.Within i) = within (inside_of i)
-stage_of (stage.AfterPost post) = behind post
+stage_of (stage.AfterPost post) = after_post post
 stage_of stage.Ended = ended
 
 -- the number of a place, -1 where there is none

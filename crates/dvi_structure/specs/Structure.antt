@@ -107,7 +107,7 @@ pub data Phase : Type 0 where
   ahead : Phase
   between : Phase
   within : List ℤ → List Command → List ℕ → Inside → Phase
-  behind : ℕ → Phase
+  after_post : ℕ → Phase
   ended : Phase
 
 -- the place of the last bop, -1 where there is none, the definitions so far, the whole pages so
@@ -148,7 +148,7 @@ at_gap s at (c.bop counts back) = if int_eq back s.last
     }) else Err kinds.BackPointer
 at_gap s at (c.post p) =
     if int_eq p.back s.last then (if nat_eq p.pages (length s.sheets)
-    then Ok (record { last = s.last; fonts = s.fonts; sheets = s.sheets; phase = behind at })
+    then Ok (record { last = s.last; fonts = s.fonts; sheets = s.sheets; phase = after_post at })
     else Err kinds.Postamble)
     else Err kinds.BackPointer
 at_gap s at _ = Err kinds.Misplaced
@@ -186,7 +186,7 @@ abbrev pub obeyed : Shape → Phase → ℕ → Command → Result Shape DviKind
 obeyed s ahead at cmd = at_start s cmd
 obeyed s between at cmd = at_gap s at cmd
 obeyed s (within counts body places i) at cmd = in_page s counts body places i at cmd
-obeyed s (behind post) at cmd = at_back s post cmd
+obeyed s (after_post post) at cmd = at_back s post cmd
 obeyed s ended at cmd = Err kinds.Misplaced
 
 abbrev pub fault_at : ℕ → DviKind → DviBad

@@ -6,7 +6,7 @@ ghost use Rattle.dvi_commands.specs.Fields.{Gives};
 ghost use Rattle.dvi_commands.specs.Commands.{meant};
 ghost use Rattle.dvi_structure.specs.Structure.{inside, fresh, turned, with_glyph, popped, selected, font_of};
 ghost use Rattle.dvi_commands.specs.Commands.{dir_of};
-ghost use Rattle.dvi_structure.specs.Outline.{inside_of, stage_of, standing_of, pointer_of, depth_of, start_outline, page_counted, within, stood, stood_ahead, stood_between, stood_within, stood_behind, may_define, has_font};
+ghost use Rattle.dvi_structure.specs.Outline.{inside_of, stage_of, standing_of, pointer_of, depth_of, start_outline, page_counted, within, stood, stood_ahead, stood_between, stood_within, stood_after_post, may_define, has_font};
 
 use crate::definitions::Fonts;
 use dvi_commands::{Command, DviKind};
@@ -241,10 +241,10 @@ impl Standing {
         Ok(())
     }
 
-    #[tactic(auto, unfolding(crate::specs::Outline::stood_behind))]
+    #[tactic(auto, unfolding(crate::specs::Outline::stood_after_post))]
     fn after_post(&mut self, post: usize, command: &Command) -> Result<(), DviKind>
         requires { depth_of self.old.stage ≡ 0 }
-        ensures exact { (bytes : List ℕ) → Gives (λ u. standing_of self.new) result (stood_behind
+        ensures exact { (bytes : List ℕ) → Gives (λ u. standing_of self.new) result (stood_after_post
             (standing_of self.old) post (meant bytes command.now)) }
         ensures pages { OnOk result (self.new.pages ≤ self.old.pages) }
         ensures depth { OnOk result (depth_of self.new.stage ≡ 0) }

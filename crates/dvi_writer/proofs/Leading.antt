@@ -15,7 +15,7 @@ use Rattle.dvi_commands.specs.Fields.{counts as read_counts, signed_bytes, unsig
 use Rattle.dvi_commands.specs.Laws.{SaysFontDef}
 use Rattle.dvi_commands.specs.Spelling.{four, plain_definition}
 use Rattle.dvi_structure.specs.Places.{placed}
-use Rattle.dvi_structure.specs.Structure.{Sheet, Shape, start, behind, fresh, walk, is_sound_font, defined, at_start, at_gap, in_page, at_back}
+use Rattle.dvi_structure.specs.Structure.{Sheet, Shape, start, after_post, fresh, walk, is_sound_font, defined, at_start, at_gap, in_page, at_back}
 use Rattle.dvi_code.specs.Laws.{CommandsLead, BytesLeadOn}
 use Rattle.dvi_code.specs.Reading.{Leads, paged}
 use Rattle.box_marks.specs.Marks.{nameless}
@@ -74,7 +74,7 @@ unfolding in_page
 defined_in last fs sheets zs n at f e sound = rw (defined_more fs n f e sound) refl
 
 abbrev pub closing : ℤ → List FontDef → List Sheet → ℕ → Shape
-closing last fonts sheets post = record { last = last; fonts = fonts; sheets = sheets; phase = behind post }
+closing last fonts sheets post = record { last = last; fonts = fonts; sheets = sheets; phase = after_post post }
 
 get_at : (fs gs : List FontDef) (g : FontDef) (n : ℕ) → n ≡ length fs → get_or (fs ++ g ∷ gs) n nameless ≡ g
 get_at [] gs g n e = rw e refl

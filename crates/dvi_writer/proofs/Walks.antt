@@ -80,7 +80,7 @@ refuses_within NoMemory ps qs rs r = tt
 
 -- ---- the loop
 
--- what a pen wrote of a box, with so many items behind and the rest before
+-- what a pen wrote of a box, with so many items after and the rest before
 pub record Runs (old : Pen) (f : Frame) (items : List Item) (i : ℕ) (sums : Sums) (pen : Pen) : Type 0 where
   pub done : List Placed
   pub writes : Writes old pen done

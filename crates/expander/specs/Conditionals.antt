@@ -43,7 +43,7 @@ abbrev pub branch_ended : Nest → Limb → Reading → Outcome Reading
 branch_ended nest limbs.Fi r = Ok (closed r)
 branch_ended nest _ r = with_fault of_text (skipped nest until.Fi r) >>= λ e. Ok (closed e.1)
 
--- The token is put back behind a \relax that isn't expanded.
+-- The token is put back after a \relax that isn't expanded.
 abbrev pub put_back : Token → Reading → Outcome Reading
 put_back token r = put (tokens.Kept (record { 0 = relax }) ∷ token ∷ []) r
 

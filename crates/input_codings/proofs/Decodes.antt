@@ -14,17 +14,17 @@ use Rattle.input_codings.specs.Decoding.{item, item_then, decoded_from, in_front
 use Rattle.input_codings.specs.Lines.{closed}
 
 -- the characters so far, and then those that follow
-abbrev pub behind_all : List Char → Result (List Char) ℕ → Result (List Char) ℕ
-behind_all cs (Ok ds) = Ok (cs ++ ds)
-behind_all cs (Err place) = Err place
+abbrev pub after_all : List Char → Result (List Char) ℕ → Result (List Char) ℕ
+after_all cs (Ok ds) = Ok (cs ++ ds)
+after_all cs (Err place) = Err place
 
-pub behind_one : (cs : List Char) (c : Char) (r : Result (List Char) ℕ) → behind_all cs (in_front c r) ≡ behind_all (cs ++ c ∷ []) r
-behind_one cs c (Ok ds) = rw append_assoc refl
-behind_one cs c (Err place) = refl
+pub after_one : (cs : List Char) (c : Char) (r : Result (List Char) ℕ) → after_all cs (in_front c r) ≡ after_all (cs ++ c ∷ []) r
+after_one cs c (Ok ds) = rw append_assoc refl
+after_one cs c (Err place) = refl
 
-pub behind_none : (r : Result (List Char) ℕ) → behind_all [] r ≡ r
-behind_none (Ok ds) = refl
-behind_none (Err place) = refl
+pub after_none : (r : Result (List Char) ℕ) → after_all [] r ≡ r
+after_none (Ok ds) = refl
+after_none (Err place) = refl
 
 pub passed_over : (coding : Coding) (state : State) (n place : ℕ) (bs : List ℕ) → decoded_from coding state n place bs ≡ decoded_from coding state 0 (place + n) (drop n bs)
 passed_over coding state zero place bs = rw add-zero refl
@@ -86,7 +86,7 @@ pub is_one_space : (c : Char) → is_space c ≡ true → c ≡ One 32
 is_one_space (One b) space = ap (λ (n : ℕ). One n) (let e : b ≡ 32 = grind (arith, nat_tests) in e)
 is_one_space (Ja k) space = cc
 
-pub finished : (cs : List Char) (n : ℕ) → trimmed cs ≡ cs → closed (behind_all (cs ++ replicate n (One 32)) (Ok [])) ≡ Ok (cs ++ One 13 ∷ [])
+pub finished : (cs : List Char) (n : ℕ) → trimmed cs ≡ cs → closed (after_all (cs ++ replicate n (One 32)) (Ok [])) ≡ Ok (cs ++ One 13 ∷ [])
 finished cs n whole = rw (append-nil, trimmed_spaces cs n, whole) refl
 
 pub item_same : (coding : Coding) (state : State) (at second third : ℕ) (bytes : List ℕ) (given : Option Item) → second ≡ get_or bytes (at + 1) 0 → third ≡ get_or bytes (at + 2) 0

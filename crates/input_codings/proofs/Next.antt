@@ -63,7 +63,7 @@ past_many bytes (suc n) k =
     let place : suc k + n ≡ k + suc n = omega arith in
     sym (past_one (past_lines n bytes) k) ∙ past_many bytes n (suc k) ∙ ap (slice_get (pieces bytes)) place
 
--- a line, and what is left behind it
+-- a line, and what is left after it
 abbrev with_rest : Unread → List Char → Result (Option (List Char) × Unread) LineFault
 with_rest u cs = Ok (Some cs, u)
 
@@ -87,7 +87,7 @@ lines_are coding n bytes =
     let same : (n + 1) - 1 ≡ n = omega arith in
     first_is coding n (past_lines n bytes) ∙ ap (line_of coding (n + 1)) (past_many bytes n 0 ∙ ap (slice_get (pieces bytes)) (zero-add n ∙ sym same))
 
--- a line that is there, from what was read and what stands behind it
+-- a line that is there, from what was read and what stands after it
 pub answers_line : (coding : Coding) (n count : ℕ) (old buffered rest : List ℕ) (cs : List Char) → old ≡ buffered ++ rest → n + 1 ≤ 1000000 → count ≡ before_ten buffered → count ≤ 65535 → (count ≡ length buffered → rest ≡ []) → 0 < length buffered
     → closed (decoded coding (text_of (nat_lt count (length buffered)) (take count buffered))) ≡ Ok cs
     → next_line (left_after coding n old) ≡ Ok (Some cs, left_after coding (n + 1) (drop (count + 1) buffered ++ rest))

@@ -34,7 +34,7 @@ character coding TwoByte first second = japanese (cell_of jis (two_bytes first s
 character coding OneByte first second =
     if nat_lt first 128 then Some (Character (One first)) else japanese (pair coding (two_bytes first second))
 
--- what begins at the first of three bytes, if anything does; behind the line's end stand bytes 0
+-- what begins at the first of three bytes, if anything does; after the line's end stand bytes 0
 abbrev pub item : Coding → State → ℕ → ℕ → ℕ → Option Item
 item coding state first second third =
     if first == 27 then option_map (λ s. Escape s) (escape second third) else character coding state first second
@@ -49,7 +49,7 @@ abbrev pub in_front : Char → Result (List Char) ℕ → Result (List Char) ℕ
 in_front c (Ok cs) = Ok (c ∷ cs)
 in_front c (Err place) = Err place
 
--- an item, and then what follows in its state, behind so many more bytes
+-- an item, and then what follows in its state, after so many more bytes
 abbrev pub item_then : State → ℕ → Option Item → (State → ℕ → Result (List Char) ℕ) → Result (List Char) ℕ
 item_then state place None rest = Err place
 item_then state place (Some (Character c)) rest = in_front c (rest state (length_of c - 1))
@@ -71,7 +71,7 @@ abbrev pub is_space : Char → Bool
 is_space (One b) = b == 32
 is_space (Ja k) = false
 
--- a character in front of trimmed ones: a character 32 with none behind it goes
+-- a character in front of trimmed ones: a character 32 with none after it goes
 abbrev pub before_trimmed : Char → List Char → List Char
 before_trimmed c [] = if is_space c then [] else c ∷ []
 before_trimmed c (d ∷ ds) = c ∷ d ∷ ds

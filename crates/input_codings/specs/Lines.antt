@@ -44,7 +44,7 @@ pub record Unread : Type 0 where
   pub line_no : ℕ
   pub bytes : List ℕ
 
--- what is left behind the next line
+-- what is left after the next line
 abbrev pub past_line : Unread → Unread
 past_line u = record { coding = u.coding; line_no = u.line_no + 1; bytes = after_ten u.bytes }
 
@@ -53,11 +53,11 @@ abbrev pub first_of : Unread → List Piece → Result (Option (List Char) × Un
 first_of u [] = Ok (None, u)
 first_of u (p ∷ ps) = characters u.coding (u.line_no + 1) p >>= (λ cs. Ok (Some cs, past_line u))
 
--- the next line, and what is left behind it
+-- the next line, and what is left after it
 abbrev pub next_line : Unread → Result (Option (List Char) × Unread) LineFault
 next_line u = first_of u (pieces u.bytes)
 
--- what is left behind n lines
+-- what is left after n lines
 abbrev pub past_lines : ℕ → List ℕ → List ℕ
 past_lines zero bytes = bytes
 past_lines (suc n) bytes = after_ten (past_lines n bytes)

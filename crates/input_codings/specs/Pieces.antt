@@ -16,7 +16,7 @@ abbrev pub pieces : List ℕ → List Piece
 pieces [] = []
 pieces (b ∷ bs) = if b == 10 then record { bytes = []; ended = true } ∷ pieces bs else byte_then b (pieces bs)
 
--- the bytes behind the first byte 10
+-- the bytes after the first byte 10
 abbrev pub after_ten : List ℕ → List ℕ
 after_ten [] = []
 after_ten (b ∷ bs) = if b == 10 then bs else after_ten bs

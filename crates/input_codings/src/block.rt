@@ -34,7 +34,7 @@ impl Model for Block {
     ghost invariant = { λ b. (b.start ≤ b.end) × (b.end ≤ length b.bytes.items) × (length b.bytes.items ≡ 131072) };
 }
 
-// Moves the bytes from a start to an end to the front, where there is little room behind them.
+// Moves the bytes from a start to an end to the front, where there is little room after them.
 // Gives the start and the end after it.
 fn make_room(bytes: &mut Vec<u8>, start: usize, end: usize) -> (usize, usize)
     requires order { start ≤ end }
@@ -54,8 +54,8 @@ fn make_room(bytes: &mut Vec<u8>, start: usize, end: usize) -> (usize, usize)
     (0, end - start)
 }
 
-// Reads once, behind the first bytes.
-fn read_behind<F: Files>(bytes: &mut Vec<u8>, end: usize, files: &mut F, file: FileNo) -> Got
+// Reads once, after the first bytes.
+fn read_after<F: Files>(bytes: &mut Vec<u8>, end: usize, files: &mut F, file: FileNo) -> Got
     requires number { (F.state files.old).is_open file.0 ≡ true }
     requires room { end < length bytes.old.items }
     ensures len { length bytes.new.items ≡ length bytes.old.items }
@@ -94,7 +94,7 @@ impl Block {
         self.start += n;
     }
 
-    /// Reads once, behind the bytes that are there.
+    /// Reads once, after the bytes that are there.
     pub fn fill<F: Files>(&mut self, files: &mut F, file: FileNo) -> Got
         requires number { (F.state files.old).is_open file.0 ≡ true }
         requires room { length self.old ≤ 65535 }
@@ -107,7 +107,7 @@ impl Block {
         let (start, end) = make_room(&mut self.bytes, self.start, self.end);
         self.start = start;
         self.end = end;
-        match read_behind(&mut self.bytes, end, files, file) {
+        match read_after(&mut self.bytes, end, files, file) {
             Got::Bytes(n) => {
                 self.end += n;
                 Got::Bytes(n)

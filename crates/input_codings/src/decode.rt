@@ -26,7 +26,7 @@ fn text_of(ended: bool, bytes: &[u8]) -> &[u8]
     }
 }
 
-// The byte of a place, or 0 behind the end.
+// The byte of a place, or 0 after the end.
 fn byte_at(bytes: &[u8], place: usize) -> u8
     ensures { result ≡ get_or bytes.now place 0 }
 {
@@ -51,10 +51,10 @@ fn push_spaces(chars: &mut Chars, count: usize) -> Result<(), LineFault>
     Ok(())
 }
 
-// Appends a character behind so many characters 32, which wait: they are appended only if a
+// Appends a character after so many characters 32, which wait: they are appended only if a
 // character other than 32 follows. Gives how many wait then.
 #[tactic(auto, using(crate::proofs::Decodes::trimmed_push))]
-fn push_behind(chars: &mut Chars, spaces: usize, c: Char) -> Result<usize, LineFault>
+fn push_after(chars: &mut Chars, spaces: usize, c: Char) -> Result<usize, LineFault>
     requires { spaces < 65536 }
     ensures all { IfOk result
         (λ n. chars.new ++ replicate n (One 32) ≡ (chars.old ++ replicate spaces (One 32)) ++ c ∷ []) }
@@ -103,7 +103,7 @@ fn decode(alloc: Global, coding: Coding, bytes: &[u8]) -> Result<Chars, LineFaul
             }
             Some(Item::Character(c)) => {
                 at += length_of(&c);
-                spaces = push_behind(&mut chars, spaces, c)?;
+                spaces = push_after(&mut chars, spaces, c)?;
             }
         }
     }

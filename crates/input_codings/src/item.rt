@@ -21,7 +21,7 @@ pub enum Item {
     Escape(State),
 }
 
-/// The state that an escape selects, by the two bytes behind its byte 27.
+/// The state that an escape selects, by the two bytes after its byte 27.
 fn escape(second: u8, third: u8) -> Option<State>
     ensures { result ≡ the_escape second third }
 {
@@ -43,7 +43,7 @@ fn pair(coding: Coding, number: u32) -> Option<Cell>
     }
 }
 
-/// What begins at the first of three bytes, where a byte 0 stands for one behind the line's end.
+/// What begins at the first of three bytes, where a byte 0 stands for one after the line's end.
 pub fn item_of(coding: Coding, state: State, first: u8, second: u8, third: u8) -> Option<Item>
     ensures { result ≡ the_item coding state first second third }
 {

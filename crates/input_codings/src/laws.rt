@@ -9,7 +9,7 @@ ghost use Rattle.input_codings.specs.Decoding.{decoded};
 ghost use Rattle.input_codings.specs.Lines.{line, next_line, past_lines};
 ghost use Rattle.input_codings.specs.Spelled.{spelled, HasSpelling};
 
-/// The next line behind n lines is line n + 1.
+/// The next line after n lines is line n + 1.
 #[tactic(auto, using(crate::proofs::Next::lines_are))]
 pub fn lines_follow()
     ensures { (coding : Coding) (n : ℕ) (bytes : List ℕ)

@@ -1,5 +1,5 @@
 -- What comes into a horizontal list. A list of entries has the newest first, so what stands
--- behind an entry in such a list is all that came before it.
+-- after an entry in such a list is all that came before it.
 use Rattle.std.specs.Prelude.{◌≡◌, ℕ, Bool, true, false, List, [], ◌∷◌, FitsSigned}
 use Rattle.std.specs.Int.{w32}
 use Rattle.ts_geometry.specs.declared.measure.Sp.{Sp}

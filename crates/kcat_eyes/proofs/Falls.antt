@@ -22,7 +22,7 @@ use Rattle.kcat_eyes.specs.declared.state.State.{State}
 use Rattle.kcat_eyes.specs.declared.state.State.TheVariants.{NewLine, MidLine, SkipBlanks, Kanji}
 use Rattle.kcat_eyes.specs.declared.seen.Seen.{Seen}
 use Rattle.kcat_eyes.specs.declared.seen.Seen.TheVariants as seen
-use Rattle.kcat_eyes.specs.Eyes.{Glance, Gives, Spells, Invalid, Nothing, Sight, Look, FaultAt, at_line, is_letter, letters, escaped, line_end, blank, of_category, met, in_line, looked, named, name_fault, eye_fault, in_lines, behind_line, still_read, next}
+use Rattle.kcat_eyes.specs.Eyes.{Glance, Gives, Spells, Invalid, Nothing, Sight, Look, FaultAt, at_line, is_letter, letters, escaped, line_end, blank, of_category, met, in_line, looked, named, name_fault, eye_fault, in_lines, after_line, still_read, next}
 use Rattle.kcat_eyes.specs.Sights.{ahead, most_in_line}
 
 -- Fewer than so many characters are left of the line.
@@ -128,6 +128,6 @@ lines_lowered codes names ends lines (p ∷ ps) =
 pub next_lowered : (codes : Codes) (names : List Spelling) (sight : Sight) → IsLowered (ahead sight.lines.line_no sight.rest) (next codes names sight)
 unfolding next ahead
 next_lowered codes names sight =
-    looked_lowered names sight.lines sight.ends sight.rest (in_line codes sight.state sight.rest) (behind_line codes names sight) (in_line_shorter codes sight.state sight.rest)
-    (lowered_still (ahead sight.lines.line_no []) (ahead sight.lines.line_no sight.rest) (behind_line codes names sight) (omega arith)
+    looked_lowered names sight.lines sight.ends sight.rest (in_line codes sight.state sight.rest) (after_line codes names sight) (in_line_shorter codes sight.state sight.rest)
+    (lowered_still (ahead sight.lines.line_no []) (ahead sight.lines.line_no sight.rest) (after_line codes names sight) (omega arith)
     (lines_lowered codes names sight.ends sight.lines (still_read sight.lines sight.ends)))

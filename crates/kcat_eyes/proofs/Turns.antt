@@ -1,4 +1,4 @@
--- The lines behind the present one, by the next of them.
+-- The lines after the present one, by the next of them.
 use Rattle.std.proofs.Common.{◌≡◌, ◌≢◌, ℕ, ◌+◌, ◌-◌, List, [], ◌∷◌, take, Bool, true, false, Option, Some, None, Result, Ok, Err, refl, sym, ap, ◌∙◌}
 use Rattle.std.specs.Prelude.{◌==◌, if◌then◌else◌}
 use mathlib.Core.Bool.{false≢true}
@@ -15,7 +15,7 @@ use Rattle.input_codings.specs.Lines.{Unread, past_line, characters, first_of, l
 use Rattle.kcat_eyes.specs.declared.state.State.TheVariants.{NewLine}
 use Rattle.kcat_eyes.specs.declared.fault.EyeFault.{EyeFault}
 use Rattle.tok_lists.specs.Codes.{Codes}
-use Rattle.kcat_eyes.specs.Eyes.{Sight, Look, FaultAt, at_line, Nothing, in_line, in_lines, still_read, behind_line, next, looked, eye_fault}
+use Rattle.kcat_eyes.specs.Eyes.{Sight, Look, FaultAt, at_line, Nothing, in_line, in_lines, still_read, after_line, next, looked, eye_fault}
 use Rattle.kcat_eyes.specs.Sights.{eye_cause, look_cause}
 
 tail : List Piece → List Piece
@@ -85,7 +85,7 @@ pub turn_some : (codes : Codes) (names : List Spelling) (ends : Bool) (u u' : Un
     → in_lines codes names ends u (still_read u ends) ≡ looked names u' ends (in_line codes NewLine cs) (in_lines codes names ends u' (still_read u' ends))
 turn_some codes names ends u u' cs start is = let r = reads u u' ends cs start is in rw (r.first, r.line, r.past) refl
 
-pub nothing_next : (codes : Codes) (names : List Spelling) (sight : Sight) → in_line codes sight.state sight.rest ≡ Nothing → next codes names sight ≡ behind_line codes names sight
+pub nothing_next : (codes : Codes) (names : List Spelling) (sight : Sight) → in_line codes sight.state sight.rest ≡ Nothing → next codes names sight ≡ after_line codes names sight
 unfolding next
 nothing_next codes names sight none = rw none refl
 

@@ -1,4 +1,4 @@
--- The next token of a file: what stands in the rest of a line, and else in the lines behind it (The TeXbook, chapter 8; pTeX).
+-- The next token of a file: what stands in the rest of a line, and else in the lines after it (The TeXbook, chapter 8; pTeX).
 use Rattle.std.specs.Prelude.{ℕ, suc, ◌+◌, ◌-◌, ◌==◌, ◌||◌, Bool, true, false, if◌then◌else◌, List, [], ◌∷◌, take, drop, Result, Ok, Err, codes}
 use Rattle.ts_base.specs.Agreement.{◌>>=◌, with_fault}
 use Rattle.jis_codes.specs.declared.character.Char.{Char}
@@ -21,7 +21,7 @@ use Rattle.kcat_eyes.specs.declared.seen.Seen.TheVariants as seen
 use Rattle.kcat_eyes.specs.declared.state.State.{State}
 use Rattle.kcat_eyes.specs.declared.state.State.TheVariants.{NewLine, MidLine, SkipBlanks, Kanji}
 
--- what the rest of a line gives first, with the state and the rest behind it: a token that is no name, the spelling of a
+-- what the rest of a line gives first, with the state and the rest after it: a token that is no name, the spelling of a
 -- name, a character that is invalid; or nothing
 pub data Glance : Type 0 where
   Gives : Token → State → List Char → Glance
@@ -48,7 +48,7 @@ abbrev pub after_symbol : Codes → Char → State
 after_symbol codes (One c) = if codes.cat c == 10 then SkipBlanks else MidLine
 after_symbol codes (Ja k) = Kanji
 
--- what stands behind an escape
+-- what stands after an escape
 abbrev pub escaped : Codes → List Char → Glance
 escaped codes [] = Spells (word []) MidLine []
 escaped codes (c ∷ rest) =
@@ -64,7 +64,7 @@ space = tokens.Char 32 10
 abbrev pub par : Spelling
 par = word (One 112 ∷ One 97 ∷ One 114 ∷ [])
 
--- the end of a line, and what stands behind it on the line is dropped
+-- the end of a line, and what stands after it on the line is dropped
 abbrev pub line_end : State → Glance
 line_end NewLine = Spells par NewLine []
 line_end MidLine = Gives space NewLine []
@@ -77,12 +77,12 @@ blank SkipBlanks rest skipped = skipped
 blank MidLine rest skipped = Gives space SkipBlanks rest
 blank Kanji rest skipped = Gives space SkipBlanks rest
 
--- Braces keep the state behind a Japanese character.
+-- Braces keep the state after a Japanese character.
 abbrev pub after_brace : State → State
 after_brace Kanji = Kanji
 after_brace _ = MidLine
 
--- a character of a category, with what stands behind it, and what that gives where this one is skipped
+-- a character of a category, with what stands after it, and what that gives where this one is skipped
 abbrev pub of_category : Codes → State → ℕ → ℕ → List Char → Glance → Glance
 of_category codes state c cat rest skipped =
     if cat == 0 then escaped codes rest
@@ -105,7 +105,7 @@ in_line codes state (c ∷ rest) = met codes state c rest (in_line codes state r
 
 -- ---- a file
 
--- what the eyes are about to read: the state, the rest of the present line, the lines behind it, and whether the file ends
+-- what the eyes are about to read: the state, the rest of the present line, the lines after it, and whether the file ends
 -- after the line that was taken last, or after its first line where none was taken yet
 pub record Sight : Type 0 where
   pub state : State
@@ -113,7 +113,7 @@ pub record Sight : Type 0 where
   pub lines : Unread
   pub ends : Bool
 
--- what is seen, the names with the one that was spelt, and the sight behind it
+-- what is seen, the names with the one that was spelt, and the sight after it
 pub record Look : Type 0 where
   pub seen : Seen
   pub names : List Spelling
@@ -143,13 +143,13 @@ named spelling names sight =
     with_fault (λ f. at_line sight.lines.line_no (name_fault f)) (numbered names spelling)
     >>= λ n. Ok (record { seen = seen.Token (tokens.Name (record { 0 = n })); names = with_name names spelling; sight = sight })
 
--- what a glance comes to; where it gave nothing, what is seen in the lines behind it
+-- what a glance comes to; where it gave nothing, what is seen in the lines after it
 abbrev pub looked : List Spelling → Unread → Bool → Glance → Result Look FaultAt → Result Look FaultAt
-looked names lines ends (Gives token state rest) behind =
+looked names lines ends (Gives token state rest) after =
     Ok (record { seen = seen.Token token; names = names; sight = record { state = state; rest = rest; lines = lines; ends = ends } })
-looked names lines ends (Spells spelling state rest) behind = named spelling names (record { state = state; rest = rest; lines = lines; ends = ends })
-looked names lines ends Invalid behind = Err (at_line lines.line_no faults.BadChar)
-looked names lines ends Nothing behind = behind
+looked names lines ends (Spells spelling state rest) after = named spelling names (record { state = state; rest = rest; lines = lines; ends = ends })
+looked names lines ends Invalid after = Err (at_line lines.line_no faults.BadChar)
+looked names lines ends Nothing after = after
 
 abbrev pub at_end : List Spelling → Unread → Bool → Look
 at_end names lines ends = record { seen = seen.End; names = names; sight = record { state = NewLine; rest = []; lines = lines; ends = ends } }
@@ -165,9 +165,9 @@ in_lines codes names ends lines (p ∷ ps) =
     with_fault (λ f. at_line (lines.line_no + 1) (eye_fault f)) (characters lines.coding (lines.line_no + 1) p)
     >>= λ line. looked names (past_line lines) ends (in_line codes NewLine line) (in_lines codes names ends (past_line lines) ps)
 
-abbrev pub behind_line : Codes → List Spelling → Sight → Result Look FaultAt
-behind_line codes names sight = in_lines codes names sight.ends sight.lines (still_read sight.lines sight.ends)
+abbrev pub after_line : Codes → List Spelling → Sight → Result Look FaultAt
+after_line codes names sight = in_lines codes names sight.ends sight.lines (still_read sight.lines sight.ends)
 
 -- the next token, or the end of the file, or the fault with its line
 unfoldable pub next : Codes → List Spelling → Sight → Result Look FaultAt
-next codes names sight = looked names sight.lines sight.ends (in_line codes sight.state sight.rest) (behind_line codes names sight)
+next codes names sight = looked names sight.lines sight.ends (in_line codes sight.state sight.rest) (after_line codes names sight)

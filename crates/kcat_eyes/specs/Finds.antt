@@ -16,7 +16,7 @@ glance_of line finds.Paragraph = Spells par NewLine []
 glance_of line finds.Invalid = Invalid
 glance_of line finds.Nothing = Nothing
 
--- a find, or what stands behind where a character is skipped
+-- a find, or what stands after where a character is skipped
 abbrev pub or_skipped : List Char → Option Find → Glance → Glance
 or_skipped line None skipped = skipped
 or_skipped line (Some find) skipped = glance_of line find

@@ -16,7 +16,7 @@ use Rattle.kcat_eyes.specs.declared.state.State.{State}
 use Rattle.kcat_eyes.specs.declared.state.State.TheVariants.{NewLine}
 use Rattle.tok_lists.specs.Codes.{Codes}
 use Rattle.tok_lists.specs.Names.{Grew}
-use Rattle.kcat_eyes.specs.Eyes.{Sight, FaultAt, at_line, behind_line, next}
+use Rattle.kcat_eyes.specs.Eyes.{Sight, FaultAt, at_line, after_line, next}
 
 -- the lines of a file, the state, the rest of the present line, and whether the file ends after this line
 pub record EyesView : Type 0 where
@@ -33,7 +33,7 @@ line_in (Some line) = line
 abbrev pub sight_of : EyesView → Option (List ℕ) → Sight
 sight_of eyes left = record { state = eyes.state; rest = eyes.rest; lines = unread eyes.lines left; ends = eyes.ends }
 
--- the sight of the present line with the lines behind it
+-- the sight of the present line with the lines after it
 abbrev pub sight_in : State → ℕ → Option (List Char) → Unread → Bool → Sight
 sight_in state at line lines ends = record { state = state; rest = drop at (line_in line); lines = lines; ends = ends }
 
@@ -52,9 +52,9 @@ look_cause stop = eye_cause stop.fault
 
 -- After the present line another one is taken, or there is none, or it has a fault.
 abbrev pub Turns : Result Bool EyeFault → Sight → Sight → Type 0
-Turns (Ok true) old new = (codes : Codes) (names : List Spelling) → behind_line codes names old ≡ next codes names new
-Turns (Ok false) old new = (codes : Codes) (names : List Spelling) → behind_line codes names old ≡ Ok (record { seen = seen.End; names = names; sight = new })
-Turns (Err e) old new = (codes : Codes) (names : List Spelling) → AgreesFault (eye_cause e) (at_line new.lines.line_no e) (behind_line codes names old)
+Turns (Ok true) old new = (codes : Codes) (names : List Spelling) → after_line codes names old ≡ next codes names new
+Turns (Ok false) old new = (codes : Codes) (names : List Spelling) → after_line codes names old ≡ Ok (record { seen = seen.End; names = names; sight = new })
+Turns (Err e) old new = (codes : Codes) (names : List Spelling) → AgreesFault (eye_cause e) (at_line new.lines.line_no e) (after_line codes names old)
 
 -- What is seen is a character, a name that is held, or the end.
 abbrev pub IsSeen : List Spelling → Seen → Type 0

@@ -12,12 +12,12 @@ use tok_lists::{CodeTable, Token};
 // The token of a blank.
 const SPACE: Token = Token::Char(b' ', 10);
 
-/// What stands next in a line, with the state behind it. Places are indexes of its characters.
+/// What stands next in a line, with the state after it. Places are indexes of its characters.
 #[derive(Clone, Copy, Debug, PartialEq, Eq)]
 pub(crate) enum Find {
-    /// A token that is no name, and the place behind it.
+    /// A token that is no name, and the place after it.
     Token(Token, State, usize),
-    /// A name: whether it is an active character, and the places of its characters and behind them.
+    /// A name: whether it is an active character, and the places of its characters and after them.
     Name(bool, usize, usize, State),
     /// The name `\par` of the end of an empty line.
     Paragraph,
@@ -63,7 +63,7 @@ fn after_symbol<C: CodeTable>(codes: &C, character: Char) -> State
     }
 }
 
-// What stands behind an escape.
+// What stands after an escape.
 fn escaped<C: CodeTable>(codes: &C, line: &[Char], at: usize) -> Find
     requires { at ≤ length line.now }
     ensures value { glance_of line.now result ≡ what_is_escaped (C.codes codes.now) (drop at line.now) }
@@ -100,7 +100,7 @@ fn after_brace(state: State) -> State
     }
 }
 
-// A blank, with the place behind it, where it isn't skipped.
+// A blank, with the place after it, where it isn't skipped.
 fn blank(state: State, at: usize) -> Option<Find>
     ensures value { (line : List Char) (skipped : Glance) → or_skipped line result skipped ≡ the_blank state (drop at line) skipped }
     ensures places { (n : ℕ) → at ≤ n → IfSome result (IsInLine at n) }
@@ -111,7 +111,7 @@ fn blank(state: State, at: usize) -> Option<Find>
     }
 }
 
-// A character of one byte, with the place behind it, where it isn't skipped.
+// A character of one byte, with the place after it, where it isn't skipped.
 fn of_category<C: CodeTable>(
     codes: &C,
     state: State,
@@ -139,7 +139,7 @@ fn of_category<C: CodeTable>(
     }
 }
 
-// A character, with the place behind it, where it isn't skipped.
+// A character, with the place after it, where it isn't skipped.
 fn met<C: CodeTable>(codes: &C, state: State, first: Char, line: &[Char], at: usize) -> Option<Find>
     requires least { 1 ≤ at }
     requires most { at ≤ length line.now }

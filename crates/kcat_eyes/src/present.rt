@@ -59,14 +59,14 @@ fn name(names: &mut Names, active: bool, chars: &[Char]) -> Result<Seen, EyeFaul
     Ok(Seen::Token(Token::Name(number)))
 }
 
-/// What is seen where something stands next in the present line, which is behind it then.
+/// What is seen where something stands next in the present line, which is after it then.
 pub(crate) fn see(present: &mut Present, found: Find, names: &mut Names) -> Result<Seen, EyeFault>
     requires here { present.old.at ≤ length (line_in present.old.line) }
     requires something { found ≢ Find.Nothing }
     requires places { IsInLine (present.old.at + 1) (length (line_in present.old.line)) found }
-    ensures exact { (lines : Unread) (ends : Bool) (behind : Result Look FaultAt)
+    ensures exact { (lines : Unread) (ends : Bool) (after : Result Look FaultAt)
         → Agrees (λ seen. record { seen = seen; names = names.new; sight = sight_in present.new.state present.new.at present.new.line lines ends }) look_cause
-        (with_fault (at_line lines.line_no) result) (looked names.old lines ends (glance_of (line_in present.old.line) found) behind) }
+        (with_fault (at_line lines.line_no) result) (looked names.old lines ends (glance_of (line_in present.old.line) found) after) }
     ensures within { present.new.at ≤ length (line_in present.new.line) }
     ensures lowers { OnOk result
         (length (drop present.new.at (line_in present.new.line)) < length (drop present.old.at (line_in present.old.line))) }

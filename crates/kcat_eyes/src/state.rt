@@ -9,6 +9,6 @@ pub(crate) enum State {
     MidLine,
     /// S: blanks are skipped.
     SkipBlanks,
-    /// K: behind a Japanese character.
+    /// K: after a Japanese character.
     Kanji,
 }

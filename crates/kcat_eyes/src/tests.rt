@@ -245,10 +245,10 @@ fn a_file_ends_after_its_line(rt: HostRuntime) -> Result<(), Fail> {
         Token::Char(b' ', 10),
     ];
     let whole = tokens.as_slice();
-    let behind = &whole[1..];
+    let after = &whole[1..];
     let early = ended_early(rt.alloc())?;
     assert_eq!(rt; early.as_slice(), whole);
     let late = ended_in_mid_line(rt.alloc())?;
-    assert_eq!(rt; late.as_slice(), behind);
+    assert_eq!(rt; late.as_slice(), after);
     Ok(())
 }

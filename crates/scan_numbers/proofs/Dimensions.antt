@@ -243,7 +243,7 @@ pub quantity_integer : (b : Manner) (q : Quantity) (n : ℤ) (taken : Bool) (tok
 unfolding quantity_left dimen_left
 quantity_integer b q n taken token context rest is = rw is (by_sign b (is_negative n) (factor (unsigned_abs n) 0) (left_of taken (fed token context ∷ rest)))
 
--- ---- units behind a space
+-- ---- units after a space
 
 own_space : (f : Bool) (k : Factor) (token : Token) (context : Context) (rest : List FedToken) → start token context ≡ starts.Space → unit f k rest ≡ unit f k (fed token context ∷ rest)
 unfolding unit
@@ -317,7 +317,7 @@ whole_unit_follows b n token context rest is small other = rw (is, fits n contex
 
 pub ruleset wholes = (whole_some, whole_too_great, whole_point)
 
--- ---- digits behind a decimal point
+-- ---- digits after a decimal point
 
 take_front : (n : ℕ) (xs ys : List ℕ) → take n (take n xs ++ ys) ≡ take n (xs ++ ys)
 take_front zero xs ys = refl
@@ -624,7 +624,7 @@ infinite_bad b k infinities.Filll kind token context rest dark is done = rw (←
 
 pub ruleset infinite_steps = (infinite_space, infinite_l, infinite_fourth)
 
--- ---- the space behind a unit
+-- ---- the space after a unit
 
 pub space_done : (b : Manner) (m : Measure) (v : Amount) (taken : Bool) (token : Token) (context : Context) (rest : List FedToken) → taken ≡ is_space token context
     → ((left : List FedToken) → finished b orders.Normal (of_measure m) context left ≡ Got v context left)

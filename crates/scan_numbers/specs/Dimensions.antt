@@ -143,7 +143,7 @@ factor n f = record { whole = n; fraction = f }
 abbrev pub whole_unit : Bool → ℕ → Context → List FedToken → Answer Amount
 whole_unit infinite n context rest = unit infinite (factor n 0) rest
 
--- the digits behind a decimal point, one optional space and the unit
+-- the digits after a decimal point, one optional space and the unit
 abbrev pub fraction_unit : Bool → ℕ → List ℕ → Context → List FedToken → Answer Amount
 fraction_unit infinite n ds context rest = optional_space (decimal ds) rest >>= λ f at left. unit infinite (factor n f) left
 

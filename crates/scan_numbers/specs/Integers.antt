@@ -51,7 +51,7 @@ abbrev pub code_then_space : Option ℕ → List FedToken → Answer ℕ
 code_then_space (Some code) rest = optional_space code rest
 code_then_space None rest = Bad NoNumber
 
--- the character behind a backquote, and one optional space
+-- the character after a backquote, and one optional space
 unfoldable pub character_constant : List FedToken → Answer ℕ
 character_constant [] = Needs Raw
 character_constant (x ∷ rest) = code_then_space (character x.token x.context) rest
@@ -77,7 +77,7 @@ negative n context rest = Got (neg_ℤ n) context rest
 abbrev pub coerced : Quantity → Context → List FedToken → Answer ℤ
 coerced q context rest = Got (integer_of q) context rest
 
--- what begins with this token, where `further` is the integer that is behind it
+-- what begins with this token, where `further` is the integer that is after it
 abbrev pub integer_from : Start → FedToken → List FedToken → Answer ℤ → Answer ℤ
 integer_from starts.Space x rest further = further
 integer_from starts.Plus x rest further = further

@@ -21,7 +21,7 @@ pub(crate) enum Constant {
     First(Radix),
     /// Digits that spell this number, or more than 2^32 - 1, have been read.
     Digits(Radix, u32),
-    /// The character behind a backquote is wanted.
+    /// The character after a backquote is wanted.
     Character,
     /// An optional space is wanted.
     Space(u32),

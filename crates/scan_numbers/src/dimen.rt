@@ -98,7 +98,7 @@ pub(crate) enum Piece {
     Whole(u32),
     /// A factor that isn't decimal.
     Constant(Constant),
-    /// Digits behind a decimal point.
+    /// Digits after a decimal point.
     Fraction(u32, Fraction),
     /// Spaces and a unit.
     Unit(Factor),
@@ -110,7 +110,7 @@ pub(crate) enum Piece {
     Fil(Factor, FilLetter),
     /// Spaces, and a further `l`, if there is one.
     Infinite(Factor, Infinity),
-    /// An optional space behind a unit.
+    /// An optional space after a unit.
     Space(Measure),
 }
 
@@ -403,7 +403,7 @@ fn in_constant(
     }
 }
 
-// Digits behind a decimal point.
+// Digits after a decimal point.
 #[tactic(auto, using(crate::proofs::Dimensions::fractions, std::proofs::lemmas::Grind::common_steps))]
 fn in_fraction(
     manner: Manner,
@@ -652,7 +652,7 @@ fn in_unit_register(
     }
 }
 
-// An optional space behind a unit.
+// An optional space after a unit.
 fn in_space(
     manner: Manner,
     measure: Measure,

@@ -46,7 +46,7 @@ use Rattle.scan_syntax.specs.Glues.{glue_of, glue, nothing, stretch, signed_glue
 use Rattle.scan_syntax.specs.Gluing.{GlueMoves, late_left, glue_left, quantity_glue_left, then_stretch, is_number, begins_width}
 use Rattle.scan_syntax.proofs.Attempts.{keyword_needs}
 
--- ---- behind the stretch
+-- ---- after the stretch
 
 pub minus_on : (w : Number) (s : Amount) (k j : Keyword) (x : FedToken) (rest : List FedToken) → keyword_left k (x ∷ rest) ≡ keyword_left j rest
     → late_left (lates.Minus w s k) (x ∷ rest) ≡ late_left (lates.Minus w s j) rest

@@ -1,7 +1,7 @@
 -- What the walks over an `Owner` have in common. Assumes `Logic`.
 --     block_made, block_out, block_back      the filled block is its count and the rest;  the last owner takes the rest apart;  and joins the fields again
 --     owner_born, owner_made      the first owner;  a further one
---     lent_out, lent_back      an owner behind a `&`, as a share of its token and the invariant
+--     lent_out, lent_back      an owner after a `&`, as a share of its token and the invariant
 --     opens_shared, opens_owned, shut      the invariant is opened to the cell of the count, by a share or by an owner, and shut
 use mathlib.Core.Path.{◌≡◌, refl, sym}
 use mathlib.Core.Bool.{Bool, true}

@@ -10,7 +10,7 @@ ghost use Rattle.tok_lists.specs.Equality.{is_same-equiv, is_same-decides};
 use jis_codes::{Char, Chars};
 use std::hash::{Hash, Hasher};
 
-/// How a name is spelt: an active character, or the characters behind an escape. They are two
+/// How a name is spelt: an active character, or the characters after an escape. They are two
 /// names where their characters are the same.
 #[derive(Debug, Drop)]
 pub struct Spelling {

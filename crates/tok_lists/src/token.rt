@@ -16,7 +16,7 @@ pub enum Token {
     Ja(Cell),
     /// A control sequence or an active character.
     Name(NameNo),
-    /// The name behind a `\noexpand`, or the `\relax` that ends an unfinished test, which isn't
+    /// The name after a `\noexpand`, or the `\relax` that ends an unfinished test, which isn't
     /// expanded (The TeXbook, chapter 20; TeX: The Program, section 510).
     Kept(NameNo),
     /// A parameter of a macro's body: #1 to #9.

@@ -47,9 +47,9 @@ scale fix_word size = floor_div (fix_word *ℤ pos size) (2 ^ 20)
 
 -- ---- decimal fractions
 
--- a digit and the fraction behind it, in units of 2^-17, rounded down
+-- a digit and the fraction after it, in units of 2^-17, rounded down
 abbrev pub half_units_before : ℕ → ℕ → ℕ
-half_units_before digit behind = (behind + 2 ^ 17 * digit) / 10
+half_units_before digit after = (after + 2 ^ 17 * digit) / 10
 
 -- the fraction that decimal digits spell, in units of 2^-17, rounded down digit by digit from the last one
 abbrev pub half_units : List ℕ → ℕ

@@ -44,7 +44,7 @@ pub struct Point {
 }
 
 /// The width, height and depth of a box or a character, in scaled points (The TeXbook, chapter 11).
-/// The width lies along the direction of writing, height and depth across it, before and behind the
+/// The width lies along the direction of writing, height and depth across it, before and after the
 /// baseline.
 #[derive(Clone, Copy, Debug, PartialEq, Eq, Hash)]
 pub struct Measures {

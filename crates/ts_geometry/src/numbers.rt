@@ -71,14 +71,14 @@ pub fn decimal(digits: &[u8]) -> u32
     half_units.div_ceil(2)
 }
 
-/// The half units of a digit and what comes behind it.
-fn half_units_before(digit: u8, behind: u32) -> u32
+/// The half units of a digit and what comes after it.
+fn half_units_before(digit: u8, after: u32) -> u32
     requires digit { digit ≤ 9 }
-    requires below_one { behind < 2 ^ 17 }
-    ensures value { result ≡ half_units_before digit behind }
+    requires below_one { after < 2 ^ 17 }
+    ensures value { result ≡ half_units_before digit after }
     ensures below_one { result < 2 ^ 17 }
 {
-    (behind + (1 << 17) * u32::from(digit)) / 10
+    (after + (1 << 17) * u32::from(digit)) / 10
 }
 
 /// How much of an excess falls to a part of the stretch or shrink, where all of it comes to

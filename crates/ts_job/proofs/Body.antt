@@ -132,8 +132,8 @@ to_x x = spot_is _ _ _ _ (omega (arith, ints)) (omega (arith, ints))
 to_y : (x y : ℤ) → stepped (spot x (pos 0) Yoko) (pos 0) y ≡ spot x y Yoko
 to_y x y = spot_is _ _ _ _ (omega (arith, ints)) (omega (arith, ints))
 
-behind : (x y w : ℤ) → stepped (spot x y Yoko) w (pos 0) ≡ spot (x +ℤ w) y Yoko
-behind x y w = spot_is _ _ _ _ refl (omega (arith, ints))
+stepped_on : (x y w : ℤ) → stepped (spot x y Yoko) w (pos 0) ≡ spot (x +ℤ w) y Yoko
+stepped_on x y w = spot_is _ _ _ _ refl (omega (arith, ints))
 
 -- a glyph with a width
 set_glyph : (f : FontDef) (g : Glyph) (width : Option Sp) (saved : List Spot) (marks : List Mark) → FitsGlyph g → IsSomeAnd width (λ w. IsWithin max_dimen w.0)
@@ -142,7 +142,7 @@ set_glyph f g None saved marks fits wide = absurd wide
 set_glyph f g (Some w) saved marks fits wide =
     let x : ℤ = g.at.x.0 in
     let y : ℤ = g.at.y.0 in
-    (x +ℤ w.0, moved_to (pen x y saved (Some f) marks) _ (x +ℤ w.0) y (mark_meant f g ∷ []) (behind x y w.0) (in_range (x +ℤ w.0) (omega (arith, ints, fits.x)) (omega (arith, ints, fits.x))) (in_range y (omega (arith, ints, fits.y)) (omega (arith, ints, fits.y))))
+    (x +ℤ w.0, moved_to (pen x y saved (Some f) marks) _ (x +ℤ w.0) y (mark_meant f g ∷ []) (stepped_on x y w.0) (in_range (x +ℤ w.0) (omega (arith, ints, fits.x)) (omega (arith, ints, fits.x))) (in_range y (omega (arith, ints, fits.y)) (omega (arith, ints, fits.y))))
 
 glyph_drawn : (l : DviLaws) → (widths : Widths) (fonts : List FontDef) (f : FontDef) (g : Glyph) (marks : List Mark) → FitsGlyph g → IsSomeAnd (widths f g.code) (λ width. IsWithin max_dimen width.0)
     → Draws widths fonts (pen (pos 0) (pos 0) [] (Some f) marks) (glyph_said g) (pen (pos 0) (pos 0) [] (Some f) (marks ++ mark_meant f g ∷ []))

@@ -1,4 +1,4 @@
--- Pieces that are put one behind the other.
+-- Pieces that are put one after the other.
 use Rattle.std.proofs.Common.{◌≡◌, ℕ, ◌+◌, ◌<◌, List, [], ◌∷◌, ◌++◌, length, take, get_or, replicate, sym, ap, ◌∙◌, append_assoc, ℤ, pos, negsuc, length-append}
 use Rattle.std.specs.List.{flat_map}
 use Rattle.std.proofs.lemmas.List.{append-nil, take_more}
@@ -59,7 +59,7 @@ pub wrote_page : (f : FontDef) (gs : List Glyph) (x0 x1 x2 x3 x4 x5 : List ℕ) 
 unfolding page_bytes
 wrote_page f gs x0 x1 x2 x3 x4 x5 e1 e2 e3 e4 e5 = both x0 x4 x5 _ _ (both x0 x3 x4 _ _ (both x0 x2 x3 _ _ (both x0 x1 x2 _ _ e1 e2) e3) e4) e5
 
--- closing bytes and fill behind the page
+-- closing bytes and fill after the page
 pub wrote_end : (f : FontDef) (high wide post n : ℕ) (at : ℤ) (x0 x1 x2 x3 x4 : List ℕ) → post ≡ length x0 → at ≡ pos post → n ≡ fill_count (length x3)
     → x1 ≡ x0 ++ post_bytes high wide → x2 ≡ x1 ++ definition_bytes f → x3 ≡ x2 ++ post_post_bytes at → x4 ≡ x3 ++ replicate n 223 → x4 ≡ x0 ++ end_bytes f (length x0) high wide
 unfolding closing_bytes end_bytes

@@ -17,7 +17,7 @@ use Rattle.dvi_commands.specs.Fields.{unsigned, signed, counts}
 use Rattle.dvi_commands.specs.Commands as c
 use Rattle.dvi_commands.specs.Commands.{Command, Preamble, Postamble, command, command_after, group_after, font_after, file_after, pre_after}
 use Rattle.dvi_structure.specs.Places.{said, fill, placed}
-use Rattle.dvi_structure.specs.Structure.{is_sound_font, is_same_font, Sheet, Shape, Walked, inside, fresh, start, between, behind, ended, at_start, at_gap, in_page, at_back, filled, walk, walked, answer}
+use Rattle.dvi_structure.specs.Structure.{is_sound_font, is_same_font, Sheet, Shape, Walked, inside, fresh, start, between, after_post, ended, at_start, at_gap, in_page, at_back, filled, walk, walked, answer}
 use Rattle.dvi_code.specs.Pages.{Widths, Pen, clean, spot, drawn, page_of, page_from, pages_of, file_pages}
 use Rattle.dvi_commands.specs.Spelling.{Spells, plain_definition}
 use Rattle.dvi_code.specs.Reading.{Leads, all_inside, paged}
@@ -134,7 +134,7 @@ page_leads l f gs at number sound has fits =
 -- ---- the end
 
 abbrev closing : List FontDef → List Sheet → ℕ → Shape
-closing fonts sheets post = record { last = pos 15; fonts = fonts; sheets = sheets; phase = behind post }
+closing fonts sheets post = record { last = pos 15; fonts = fonts; sheets = sheets; phase = after_post post }
 
 abbrev done : List FontDef → List Sheet → Shape
 done fonts sheets = record { last = pos 15; fonts = fonts; sheets = sheets; phase = ended }
@@ -167,10 +167,10 @@ fill_is s (suc n) at count four whole =
     let k : at + 1 + n ≡ at + suc n = omega arith in
     fill_is s n (at + 1) (count + 1) (omega arith) (rw k whole)
 
-last_walked : (fonts : List FontDef) (sheets : List Sheet) (post at behind_it : ℕ) (bytes : List ℕ) → filled (done fonts sheets) behind_it 0 bytes ≡ Ok (done fonts sheets)
-    → walk (closing fonts sheets post) (record { at = at; item = said (c.post_post (pos post) 2) } ∷ record { at = behind_it; item = fill bytes } ∷ []) ≡ over fonts sheets
+last_walked : (fonts : List FontDef) (sheets : List Sheet) (post at after_it : ℕ) (bytes : List ℕ) → filled (done fonts sheets) after_it 0 bytes ≡ Ok (done fonts sheets)
+    → walk (closing fonts sheets post) (record { at = at; item = said (c.post_post (pos post) 2) } ∷ record { at = after_it; item = fill bytes } ∷ []) ≡ over fonts sheets
 unfolding walk
-last_walked fonts sheets post at behind_it bytes full = rw (post_post_comes fonts sheets post, full) refl
+last_walked fonts sheets post at after_it bytes full = rw (post_post_comes fonts sheets post, full) refl
 
 enough : (n : ℕ) → (4 ≤ 0 + fill_count n) × ((n + fill_count n) % 4 ≡ 0)
 enough n = (omega arith, omega arith)

@@ -9,12 +9,12 @@ pub record Form : Type 0 where
   pub name : List ℕ
   pub cells : List Kuten
 
--- what stands behind a text, where the characters begin with it
-abbrev pub behind : List ℕ → List Char → Option (List Char)
-behind [] characters = Some characters
-behind (b ∷ text) [] = None
-behind (b ∷ text) (One c ∷ characters) = if b == c then behind text characters else None
-behind (b ∷ text) (Ja k ∷ characters) = None
+-- what stands after a text, where the characters begin with it
+abbrev pub after : List ℕ → List Char → Option (List Char)
+after [] characters = Some characters
+after (b ∷ text) [] = None
+after (b ∷ text) (One c ∷ characters) = if b == c then after text characters else None
+after (b ∷ text) (Ja k ∷ characters) = None
 
 -- a lower-case letter or a digit
 abbrev pub is_name_byte : ℕ → Bool
@@ -64,7 +64,7 @@ form_with name cells rest =
 -- the form that the characters of a line have, if they have it
 unfoldable pub form_of : List Char → Option Form
 form_of all = do
-  named ← behind font_text all
-  boxed ← behind box_text (drop (length (name_in named)) named)
-  rest ← behind end_text (drop (length (cells_in boxed)) boxed)
+  named ← after font_text all
+  boxed ← after box_text (drop (length (name_in named)) named)
+  rest ← after end_text (drop (length (cells_in boxed)) boxed)
   form_with (name_in named) (cells_in boxed) rest

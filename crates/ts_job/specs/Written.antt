@@ -49,11 +49,11 @@ post_bytes high wide = 248 ∷ [] ++ signed_bytes (pos 15) ++ unit_bytes ++ big_
 unfoldable pub post_post_bytes : ℤ → List ℕ
 post_post_bytes post = 249 ∷ [] ++ signed_bytes post ++ 2 ∷ []
 
--- how many bytes of fill stand behind so many bytes
+-- how many bytes of fill stand after so many bytes
 abbrev pub fill_count : ℕ → ℕ
 fill_count before = 7 - (before + 3) % 4
 
--- what stands behind the page, which ends at a place, but for the fill
+-- what stands after the page, which ends at a place, but for the fill
 unfoldable pub closing_bytes : FontDef → ℕ → ℕ → ℕ → List ℕ
 closing_bytes f post high wide = post_bytes high wide ++ definition_bytes f ++ post_post_bytes (pos post)
 

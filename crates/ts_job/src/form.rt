@@ -2,7 +2,7 @@
 
 ghost use Rattle.std.specs.Prelude.{◌≡◌, ◌≤◌, ◌∷◌, [], true, length, option_map, IfOk, IfSome};
 ghost use Rattle.std.specs.List.{list_all};
-ghost use Rattle.ts_job.specs.Form.{behind as what_is_behind, name_in as the_name_in, cells_in as the_cells_in, is_line_end as ends_line, is_name_byte as is_byte_of_name, form_of as the_form_of, form_with as the_form_with};
+ghost use Rattle.ts_job.specs.Form.{after as what_is_after, name_in as the_name_in, cells_in as the_cells_in, is_line_end as ends_line, is_name_byte as is_byte_of_name, form_of as the_form_of, form_with as the_form_with};
 ghost use Rattle.ts_job.specs.FormSeen.{seen};
 ghost use Rattle.ts_job.specs.Setting.{IsSound};
 
@@ -16,9 +16,9 @@ pub(crate) struct Form {
     pub(crate) cells: Vec<Cell>,
 }
 
-// What stands behind a byte, where the characters begin with it.
-fn behind_byte(byte: u8, characters: &[Char]) -> Option<&[Char]>
-    ensures { option_map (λ s. s.now) result ≡ what_is_behind (byte ∷ []) characters.now }
+// What stands after a byte, where the characters begin with it.
+fn after_byte(byte: u8, characters: &[Char]) -> Option<&[Char]>
+    ensures { option_map (λ s. s.now) result ≡ what_is_after (byte ∷ []) characters.now }
 {
     match characters {
         [Char::One(one), others @ ..] => (*one == byte).then_some(others),
@@ -26,14 +26,14 @@ fn behind_byte(byte: u8, characters: &[Char]) -> Option<&[Char]>
     }
 }
 
-// What stands behind a text, where the characters begin with it.
-#[tactic(auto, using(crate::proofs::Forms::behind_more, crate::proofs::Forms::behind_none))]
-fn behind<'a>(text: &[u8], characters: &'a [Char]) -> Option<&'a [Char]>
-    ensures { option_map (λ s. s.now) result ≡ what_is_behind text.now characters.now }
+// What stands after a text, where the characters begin with it.
+#[tactic(auto, using(crate::proofs::Forms::after_more, crate::proofs::Forms::after_none))]
+fn after<'a>(text: &[u8], characters: &'a [Char]) -> Option<&'a [Char]>
+    ensures { option_map (λ s. s.now) result ≡ what_is_after text.now characters.now }
 {
     let mut rest = characters;
     for byte in text {
-        rest = behind_byte(*byte, rest)?;
+        rest = after_byte(*byte, rest)?;
     }
     Some(rest)
 }
@@ -105,15 +105,15 @@ pub(crate) fn form_of(alloc: Global, all: &[Char]) -> Result<Option<Form>, Alloc
     ensures form { IfOk result (λ form. option_map seen form ≡ the_form_of all.now) }
     ensures sound { IfOk result (λ form. IfSome form (λ found. IsSound (seen found))) }
 {
-    let Some(named) = behind(b"\\font\\j=", all) else {
+    let Some(named) = after(b"\\font\\j=", all) else {
         return Ok(None);
     };
     let name = name_in(alloc, named)?;
-    let Some(boxed) = behind(b" \\j\\shipout\\hbox{", &named[name.len()..]) else {
+    let Some(boxed) = after(b" \\j\\shipout\\hbox{", &named[name.len()..]) else {
         return Ok(None);
     };
     let cells = cells_in(alloc, boxed)?;
-    let Some(rest) = behind(b"}\\end", &boxed[cells.len()..]) else {
+    let Some(rest) = after(b"}\\end", &boxed[cells.len()..]) else {
         return Ok(None);
     };
     Ok(form_with(name, cells, rest))

@@ -34,7 +34,7 @@ pub trait Sink {
     /// The faults of the outside so far, a number that never falls and stops at its last value.
     ghost faults: { Self → ℕ };
 
-    /// Puts bytes of a piece behind those that are held, as many as the outside likes to take.
+    /// Puts bytes of a piece after those that are held, as many as the outside likes to take.
     fn put(&mut self, piece: &[u8]) -> Put
         requires { 0 < length piece.now }
         ensures takes { Takes result piece.now (held self.old) (held self.new) }

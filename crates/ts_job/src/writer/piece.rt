@@ -16,7 +16,7 @@ const NUM: u32 = 25_400_000;
 const DEN: u32 = 473_628_672;
 /// The magnification, in thousandths.
 const MAG: u32 = 1000;
-/// The place of the page, behind the preamble.
+/// The place of the page, after the preamble.
 const PAGE: i32 = 15;
 
 #[tactic(auto, using(crate::proofs::Puts::wrote_units))]

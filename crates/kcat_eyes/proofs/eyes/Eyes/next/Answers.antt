@@ -1,7 +1,7 @@
 use Rattle.std.proofs.Common.{rules, ◌≡◌, refl, sym, ◌∙◌, drop, arith}
 use Rattle.std.proofs.lemmas.Grind.{common_steps}
 use Rattle.input_codings.specs.Reading.{unread}
-use Rattle.kcat_eyes.specs.Eyes.{next, in_line, Nothing, behind_line}
+use Rattle.kcat_eyes.specs.Eyes.{next, in_line, Nothing, after_line}
 use Rattle.kcat_eyes.specs.Sights.{line_in, sight_in, ahead}
 use Rattle.kcat_eyes.proofs.Turns.{nothing_next, refusal}
 use Rattle.kcat_eyes.proofs.eyes.Eyes.next.Goals as goal
@@ -60,7 +60,7 @@ returns-clause-exact g c = λ told.
     let present = c.loop-found.self-inside.present in
     let lines = unread c.loop-found.self-inside.lines ((g.F.Files.state c.loop-found.files).left c.args.self.now.lines.file) in
     let sight = sight_in present.state present.at present.line lines c.loop-found.self-inside.ends in
-    rw (here.sight told) (rw here.found at (c.see.ensures.exact lines c.loop-found.self-inside.ends (behind_line codes c.args.names.now sight)))
+    rw (here.sight told) (rw here.found at (c.see.ensures.exact lines c.loop-found.self-inside.ends (after_line codes c.args.names.now sight)))
 
 pub returns-then-not-branch-clause-lowers : goal.returns-then-not-branch-clause-lowers
 unfolding ahead
