@@ -17,6 +17,7 @@ use Rattle.env_groups.specs.declared.group.GroupKind.{GroupKind}
 use Rattle.tok_lists.specs.StartNames.{start_names}
 use Rattle.std.specs.Prelude.{slice_get}
 use Rattle.tok_lists.specs.declared.token.Token.TheVariants as tokens
+use Rattle.macros.specs.Definitions.{IsDefined}
 use Rattle.expander.specs.declared.action.Front.TheVariants as fronts
 use Rattle.expander.specs.Actions.{front_as, front_of}
 use Rattle.expander.specs.Holding.{IsCallable, IsFit, HaveRelax, AreFit}
@@ -101,6 +102,13 @@ fit_at_start = (lit≤ tt, start_has (IsFit start_names) (AreHeld start_names) (
 pub fit_after_meaning : (names : List Spelling) (nest : Nest) (name : ℕ) (value : Meaning) (is_global : Bool) → IsFit names value → AreFit names nest → AreFit names (meaning_set nest name value is_global)
 unfolding AreFit
 fit_after_meaning names nest name value is_global of fit = (fit.0, meaning_keeps (IsFit names) (AreHeld names) (λ _. Unit {0}) nest name value is_global of fit.1)
+
+macro_fit : (names : List Spelling) (d : MacroDef) → IsDefined names d → IsFit names (meanings.Macro d)
+macro_fit names d is = record { params = is.params; body = is.body; plain = is.braces }
+
+-- A macro is as its definition made it.
+pub fit_after_macro : (names : List Spelling) (nest : Nest) (name : ℕ) (d : MacroDef) (is_global : Bool) → IsDefined names d → AreFit names nest → AreFit names (meaning_set nest name (meanings.Macro d) is_global)
+fit_after_macro names nest name d is_global is fit = fit_after_meaning names nest name (meanings.Macro d) is_global (macro_fit names d is) fit
 
 pub fit_after_toks : (names : List Spelling) (old new : Nest) (key : ToksKey) (value : List Token) (is_global : Bool) → toks_set old key value is_global ≡ Ok new → AreHeld names value → AreFit names old → AreFit names new
 unfolding AreFit

@@ -6,3 +6,9 @@ pub mod Loops
 pub mod Fitting
 pub mod Chains
 pub mod Gullets
+pub mod Passing
+pub mod Comparing
+pub mod Outcomes
+pub mod Texts
+pub mod Sized
+pub mod Defining

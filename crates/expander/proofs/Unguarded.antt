@@ -45,6 +45,7 @@ acts_same k token actions.String w less = refl
 acts_same k token actions.EndInput w less = refl
 acts_same k token (actions.Ends limb) w less = refl
 acts_same k token (actions.Asks question) w less = refl
+acts_same k token actions.IfX w less = refl
 acts_same k token actions.Missing w less = refl
 acts_same k token actions.Unexpandable w less = refl
 

@@ -1,5 +1,5 @@
 -- How conditionals go on and end (The TeXbook, chapter 20; TeX: The Program, sections 489 to 510).
-use Rattle.std.specs.Prelude.{ℕ, ◌-◌, Bool, true, false, if◌then◌else◌, List, [], ◌∷◌, length, Option, Some, None, Ok, Err, slice_get}
+use Rattle.std.specs.Prelude.{ℕ, zero, suc, ◌-◌, Bool, true, false, if◌then◌else◌, List, [], ◌∷◌, length, Option, Some, None, Ok, Err, slice_get}
 use Rattle.ts_base.specs.Agreement.{◌>>=◌, with_fault}
 use Rattle.tok_lists.specs.declared.token.Token.{Token}
 use Rattle.tok_lists.specs.declared.token.Token.TheVariants as tokens
@@ -63,7 +63,18 @@ abbrev pub after_false : ℕ → Ended → Reading → Reading
 after_false number ended.Fi r = closed r
 after_false number _ r = changed number allowed.Fi r
 
--- The test of the conditional of a number is decided, which is the innermost.
+-- So many conditionals, the innermost first, are passed over, each up to its \fi, as where an \else ends a branch.
+unfoldable pub passed_over : Nest → ℕ → Reading → Outcome Reading
+passed_over nest zero r = Ok r
+passed_over nest (suc n) r = branch_ended nest limbs.Else r >>= λ r. passed_over nest n r
+
+-- how many conditionals are open in that of a number: those that its test opened, and that didn't end in it
+abbrev pub inner_count : ℕ → Reading → ℕ
+inner_count number r = length r.conditionals - number - 1
+
+-- The test of the conditional of a number is decided.
 abbrev pub decided : Nest → ℕ → Bool → Reading → Outcome Reading
 decided nest number true r = Ok (changed number allowed.Else r)
-decided nest number false r = with_fault of_text (skipped nest until.Else r) >>= λ e. Ok (after_false number e.0 e.1)
+decided nest number false r =
+    passed_over nest (inner_count number r) r
+    >>= λ r. with_fault of_text (skipped nest until.Else r) >>= λ e. Ok (after_false number e.0 e.1)

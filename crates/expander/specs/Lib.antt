@@ -3,8 +3,10 @@ pub mod Worlds
 pub mod Actions
 pub mod Conditionals
 pub mod Questions
+pub mod Comparisons
 pub mod Plain
 pub mod Steps
 pub mod Expansion
+pub mod Definitions
 pub mod Holding
 pub mod GulletFaults

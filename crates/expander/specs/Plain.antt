@@ -1,4 +1,5 @@
--- Expansions that expand no further token: \noexpand, \string, \endinput, \else, \or, \fi, and tests that read nothing.
+-- Expansions that expand no further token: \noexpand, \string, \endinput, \else, \or, \fi, \ifx, and tests that read
+-- nothing.
 use Rattle.std.specs.Prelude.{ℕ, false, if◌then◌else◌, List, [], ◌∷◌, Ok, slice_get}
 use Rattle.std.specs.Option.{unwrap_or}
 use Rattle.ts_base.specs.Agreement.{◌>>=◌, with_fault}
@@ -18,6 +19,7 @@ use Rattle.expander.specs.Worlds.{Outcome, plain_from, put, in_expansion}
 use Rattle.expander.specs.Actions.{expands}
 use Rattle.expander.specs.Conditionals.{limb_met}
 use Rattle.expander.specs.Questions.{asked}
+use Rattle.expander.specs.Comparisons.{if_x}
 
 -- ---- macro calls
 
@@ -67,6 +69,7 @@ work nest token actions.String r = string nest r
 work nest token actions.EndInput r = Ok (ending r)
 work nest token (actions.Ends limb) r = limb_met nest token limb r
 work nest token (actions.Asks question) r = asked nest question r
+work nest token actions.IfX r = if_x nest r
 work nest token _ r = Ok r
 
 unfoldable pub acted : Nest → Token → Action → Reading → Outcome Reading

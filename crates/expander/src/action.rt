@@ -31,8 +31,9 @@ pub enum Action {
     EndInput,
     /// `\else`, `\or` or `\fi`.
     Ends(Limb),
-    /// A test.
+    /// A test that reads no token.
     Asks(Question),
+    IfX,
     /// It is expanded, and its step isn't there yet.
     Missing,
     /// It isn't expanded.

@@ -22,6 +22,7 @@ pub(crate) fn action_of(prim: Prim) -> Action
         Prim::Else => Action::Ends(Limb::Else),
         Prim::Or => Action::Ends(Limb::Or),
         Prim::Fi => Action::Ends(Limb::Fi),
+        Prim::IfX => Action::IfX,
         Prim::IfTrue => Action::Asks(Question::True),
         Prim::IfFalse => Action::Asks(Question::False),
         Prim::IfVMode => Action::Asks(Question::VMode),
@@ -41,7 +42,6 @@ pub(crate) fn action_of(prim: Prim) -> Action
         | Prim::Kuten
         | Prim::If
         | Prim::IfCat
-        | Prim::IfX
         | Prim::IfNum
         | Prim::IfDim
         | Prim::IfOdd

@@ -1,13 +1,13 @@
 //! How conditionals open, go on and end.
 
-ghost use Rattle.std.specs.Prelude.{◌≡◌, ◌≤◌, ◌+◌, OnOk};
+ghost use Rattle.std.specs.Prelude.{◌≡◌, ◌≤◌, ◌+◌, ◌-◌, length, OnOk};
 ghost use Rattle.ts_base.specs.Agreement.{Counts, Uncounted};
 ghost use Rattle.ts_outside.specs.States.{FilesState};
 ghost use Rattle.mouth.specs.Keeping.{reading, AgreesAt, AreOpen, AreTold, IsReadable, IsToken, KeepsFiles};
 ghost use Rattle.mouth.specs.Sizes.{size};
 ghost use Rattle.expander.specs.Faults.{step_cause};
 ghost use Rattle.expander.specs.Holding.{Goes, HaveRelax};
-ghost use Rattle.expander.specs.Conditionals.{innermost as the_innermost, allows as the_allows, branch_ended, put_back as the_put_back, limb_met, decided};
+ghost use Rattle.expander.specs.Conditionals.{innermost as the_innermost, allows as the_allows, branch_ended, put_back as the_put_back, limb_met, passed_over, decided};
 ghost use Rattle.expander.specs.Questions.{asked};
 
 use crate::action::Question;
@@ -125,8 +125,49 @@ pub(crate) fn meet_limb<F: Files>(
     }
 }
 
-// Goes on after a test of the innermost conditional, which has this number.
-fn decide<F: Files>(
+// Passes over so many conditionals, the innermost first, each up to its `\fi`.
+#[tactic(auto, using(crate::proofs::Chains::goes_then))]
+fn pass_over<F: Files>(
+    mouth: &mut Mouth,
+    files: &mut F,
+    env: &Env,
+    count: usize,
+) -> Result<(), StepFault>
+    requires opened { AreOpen mouth.old (F.state files.old) }
+    requires readable { IsReadable mouth.old }
+    ensures exact { AreTold mouth.old (F.state files.old)
+        → AgreesAt (λ _. reading mouth.new (F.state files.new)) step_cause mouth.new result
+        (passed_over env.now count (reading mouth.old (F.state files.old))) }
+    ensures goes { Goes mouth.old (F.state files.old) mouth.new (F.state files.new) }
+    ensures readable { OnOk result (IsReadable mouth.new) }
+    ensures size { OnOk result (size (reading mouth.new (F.state files.new))
+        ≤ size (reading mouth.old (F.state files.old))) }
+    ensures counted { Counts step_cause result (F.state files.old).faults
+        (F.state files.new).faults }
+{
+    let mut left = count;
+    while left > 0 {
+        end_branch(mouth, files, env, Limb::Else)?;
+        left -= 1;
+    }
+    Ok(())
+}
+
+// How many conditionals are open in that of a number.
+fn inner_count(mouth: &Mouth, number: usize) -> usize
+    ensures { result ≡ length mouth.now.conditionals - number - 1 }
+{
+    mouth
+        .conditionals()
+        .len()
+        .saturating_sub(number)
+        .saturating_sub(1)
+}
+
+/// Goes on after the test of the conditional of a number (TeX: The Program, sections 498, 500 and
+/// 509). After a false test the conditionals that are open in it are passed over, and then text is
+/// skipped up to its `\else` or `\fi`.
+pub(crate) fn decide<F: Files>(
     mouth: &mut Mouth,
     files: &mut F,
     env: &Env,
@@ -149,6 +190,8 @@ fn decide<F: Files>(
         mouth.change_conditional(number, Allowed::Else);
         return Ok(());
     }
+    let inner = inner_count(mouth, number);
+    pass_over(mouth, files, env, inner)?;
     match skip_text(mouth, files, env, Until::Else)? {
         Ended::Fi => mouth.close_conditional(),
         _ => mouth.change_conditional(number, Allowed::Fi),

@@ -23,7 +23,7 @@ use tok_lists::Token;
 use ts_outside::Files;
 
 // The plain name of a Kept token, and any other token as it is.
-fn plain(token: Token) -> Token
+pub(crate) fn plain(token: Token) -> Token
     ensures { result ≡ the_plain token }
 {
     match token {

@@ -1,5 +1,7 @@
 //! The gullet.
 
+mod definitions;
+
 ghost use Rattle.std.specs.Prelude.{◌≡◌, ◌≤◌, ◌<◌, ◌+◌, [], OnOk, OnErr, IfOk, IfErr, IfSome, IsSome};
 ghost use Rattle.ts_base.specs.Agreement.{Agrees, Counts, Uncounted, with_fault};
 ghost use Rattle.ts_outside.specs.States.{FilesState, KeepsAll};

@@ -1,8 +1,7 @@
 //! Laws of expansion. The lemmas that proofs cite for them stand in `proofs/Unguarded.antt` and
-//! `proofs/Loops.antt`.
+//! `proofs/Sized.antt`.
 
-ghost use Rattle.std.specs.Prelude.{◌≡◌, ℕ, Bool, List, Ok};
-ghost use Rattle.ts_base.specs.Agreement.{followed_by};
+ghost use Rattle.std.specs.Prelude.{◌≡◌, ◌≤◌, ◌<◌, ◌↔◌, ℕ, Bool, List, Ok, IfOk, IsTrue};
 ghost use Rattle.tok_lists.specs.declared.token.Token.{Token};
 ghost use Rattle.tok_lists.specs.declared.spelling.Spelling.{Spelling};
 ghost use Rattle.tok_lists.specs.Names.{Grew, AreHeld};
@@ -12,18 +11,45 @@ ghost use Rattle.env_groups.specs.declared.key.ToksKey.{ToksKey};
 ghost use Rattle.env_groups.specs.declared.meaning.Meaning.{Meaning};
 ghost use Rattle.env_groups.specs.Environments.{Nest, start, meaning_set, toks_set, group_opened, group_closed};
 ghost use Rattle.expander.specs.Holding.{AreFit, IsFit};
-ghost use Rattle.expander.specs.Worlds.{World, token_from};
-ghost use Rattle.expander.specs.Steps.{Next, Expand, expand_step};
-ghost use Rattle.expander.specs.Expansion.{run, near_on};
+ghost use Rattle.mouth.specs.Sizes.{size};
+ghost use Rattle.ts_base.specs.Agreement.{followed_by};
+ghost use Rattle.macros.specs.declared.body.Body.{Body};
+ghost use Rattle.expander.specs.Comparisons.{is_same_meaning};
+ghost use Rattle.expander.specs.Definitions.{next_part, goes_on, expanded};
+ghost use Rattle.expander.specs.Worlds.{World};
+ghost use Rattle.expander.specs.Steps.{Next, Expand, next_step, expand_step};
+ghost use Rattle.expander.specs.Expansion.{run};
 
-/// One expansion is its step, over the calls themselves: that each call is asked of less than the
-/// one that makes it takes nothing away. The next unexpandable token is given by tokens that are
-/// expanded one after the other, each with less before it than the one before.
-#[tactic(auto, using(crate::proofs::Unguarded::expand_is, crate::proofs::Loops::next_near))]
+/// Each call is its step, over the calls themselves: that each is asked of less than the one that
+/// makes it takes nothing away.
+#[tactic(auto, using(crate::proofs::Unguarded::expand_is, crate::proofs::Sized::next_is))]
 pub fn expansion_is_its_steps()
     ensures expand { (token : Token) (w : World)
         → run (Expand token) w ≡ expand_step run token w }
-    ensures next { (w : World) → run Next w ≡ followed_by (token_from w.nest w.at) (near_on w) }
+    ensures next { (w : World) → run Next w ≡ next_step run w }
+{}
+
+/// What an expansion leaves is no more than what stood after its token, and the next unexpandable
+/// token leaves less than there was.
+#[tactic(auto, using(crate::proofs::Sized::expand_leaves, crate::proofs::Sized::next_leaves))]
+pub fn expansions_leave_less()
+    ensures expand { (token : Token) (w : World)
+        → IfOk (run (Expand token) w) (λ v. size v.at ≤ size w.at) }
+    ensures next { (w : World) → IfOk (run Next w) (λ t. size t.1.at < size w.at) }
+{}
+
+/// A body that is expanded reads a part, and where there is more it goes on in the same way.
+#[tactic(auto, using(crate::proofs::Defining::expanded_is))]
+pub fn bodies_go_on()
+    ensures { (body : Body) (w : World)
+        → expanded body w ≡ followed_by (next_part body w) (goes_on expanded) }
+{}
+
+/// Whether two meanings are the same is decided.
+#[tactic(auto, using(crate::proofs::Comparing::meanings_decide))]
+pub fn meanings_are_compared()
+    ensures { (first second : Meaning)
+        → IsTrue (is_same_meaning first second) ↔ (first ≡ second) }
 {}
 
 /// The environment at the start is fit for expansion with the names of the start, and an

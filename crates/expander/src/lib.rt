@@ -3,7 +3,9 @@
 
 mod action;
 mod actions;
+mod comparisons;
 mod conditionals;
+mod definition;
 mod expansion;
 mod fault;
 mod gullet;
@@ -17,4 +19,7 @@ mod tests;
 pub use fault::StepFault;
 pub use gullet::Gullet;
 pub use gullet_fault::GulletFault;
-pub use laws::{environments_stay_fit, expansion_is_its_steps};
+pub use laws::{
+    bodies_go_on, environments_stay_fit, expansion_is_its_steps, expansions_leave_less,
+    meanings_are_compared,
+};

@@ -14,6 +14,7 @@ ghost use Rattle.expander.specs.Plain.{body_put, called, kept as the_kept, spelt
 
 use crate::action::Action;
 use crate::actions::is_expandable;
+use crate::comparisons::if_x;
 use crate::conditionals::{ask, meet_limb};
 use crate::fault::StepFault;
 use crate::steps::{begin, push, take_plain};
@@ -203,6 +204,7 @@ fn work<F: Files>(
         }
         Action::Ends(limb) => meet_limb(alloc, mouth, files, env, token, limb),
         Action::Asks(question) => ask(mouth, files, env, question),
+        Action::IfX => if_x(mouth, files, env),
         _ => Ok(()),
     }
 }

@@ -1,0 +1,73 @@
+-- Macro definitions, also those whose body is expanded (The TeXbook, chapter 20; TeX: The Program, sections 473 to 479).
+use Rattle.std.specs.Prelude.{ℕ, zero, suc, Bool, true, false, if◌then◌else◌, Ok}
+use Rattle.ts_base.specs.Agreement.{◌>>=◌, with_fault}
+use Rattle.tok_lists.specs.declared.token.Token.{Token}
+use Rattle.env_groups.specs.declared.meaning.MacroDef.{MacroDef}
+use Rattle.mouth.specs.Reading.{Reading}
+use Rattle.mouth.specs.Changes.{entered, left}
+use Rattle.mouth.specs.Sizes.{size}
+use Rattle.mouth.specs.Tokens.{plain}
+use Rattle.raw_texts.specs.declared.machine.Progress.{Progress}
+use Rattle.raw_texts.specs.declared.machine.Progress.TheVariants.{On, Done}
+use Rattle.macros.specs.declared.body.Body.{Body}
+use Rattle.macros.specs.Headings.{heading}
+use Rattle.macros.specs.Bodies.{empty, step}
+use Rattle.macros.specs.Definitions.{macro_of, defined}
+use Rattle.expander.specs.declared.fault.StepFault.TheVariants.{Text}
+use Rattle.expander.specs.Faults.{of_text, stopped}
+use Rattle.expander.specs.Worlds.{World, world, Outcome, token_from}
+use Rattle.expander.specs.Actions.{expands}
+use Rattle.expander.specs.Steps.{Next, Expand}
+use Rattle.expander.specs.Expansion.{run, gives_up}
+
+-- a body that goes on or is done, and the world after its last part
+pub record Part : Type 0 where
+  pub progress : Progress
+  pub body : Body
+  pub rest : World
+
+abbrev pub part : Progress → Body → World → Part
+part progress body w = record { progress = progress; body = body; rest = w }
+
+-- a token that is one of the body, or its last }
+abbrev pub token_fed : Body → Token → World → Outcome Part
+token_fed body token w = with_fault (λ fault. stopped (Text fault) w.at) (step w.nest body token) >>= λ p. Ok (part p.0 p.1 w)
+
+-- The part that begins with a token: an expandable one is expanded once, and any other is fed, a Kept one as its plain name.
+abbrev pub part_with : Body → World → Token × Reading → Outcome Part
+part_with body w t =
+    if expands w.nest t.0 then (run (Expand t.0) (world t.1 w.nest) >>= λ v. Ok (part On body v))
+    else token_fed body (plain t.0) (world t.1 w.nest)
+
+-- the next part of a body that is expanded
+abbrev pub next_part : Body → World → Outcome Part
+next_part body w = token_from w.nest w.at >>= part_with body w
+
+-- It is done, or there is more.
+abbrev pub goes_as : (Body → World → Outcome (Body × World)) → Progress → Body → World → Outcome (Body × World)
+goes_as more Done body w = Ok (body, w)
+goes_as more On body w = more body w
+
+abbrev pub goes_on : (Body → World → Outcome (Body × World)) → Part → Outcome (Body × World)
+goes_on more p = goes_as more p.progress p.body p.rest
+
+-- Each part is read from less than the one before, so the law below holds of expanded: it reads a part, and where there is
+-- more it goes on in the same way. No body comes to the first case.
+unfoldable pub expanded_within : ℕ → Body → World → Outcome (Body × World)
+expanded_within zero body w = gives_up Next w >>= λ t. Ok (body, t.1)
+expanded_within (suc n) body w = next_part body w >>= goes_on (expanded_within n)
+
+-- the body with its parts, expanded, and the world after its last }
+unfoldable pub expanded : Body → World → Outcome (Body × World)
+expanded body w = expanded_within (suc (size w.at)) body w
+
+-- The parameter text isn't expanded. No file may end in the definition.
+abbrev pub expanded_definition : World → Outcome (MacroDef × World)
+expanded_definition w =
+    with_fault of_text (heading w.nest (entered w.at))
+    >>= λ h. expanded (empty h.0) (world h.1 w.nest) >>= λ b. Ok (macro_of b.0, world (left b.1.at) b.1.nest)
+
+-- the macro of a definition whose name was taken, expanded or not, and the world after it
+abbrev pub definition_of : Bool → World → Outcome (MacroDef × World)
+definition_of true w = expanded_definition w
+definition_of false w = with_fault of_text (defined w.nest w.at) >>= λ d. Ok (d.0, world d.1 w.nest)
