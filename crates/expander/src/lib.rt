@@ -11,6 +11,8 @@ mod fault;
 mod gullet;
 mod gullet_fault;
 mod laws;
+#[cfg(test)]
+mod macro_tests;
 mod plain;
 mod steps;
 #[cfg(test)]

@@ -37,13 +37,13 @@ fn expand_all<F: Files>(
 
 // The line up to which a source was read, and why it went no further.
 #[derive(Drop)]
-struct Ending {
-    fault: Option<GulletFault>,
-    line: u32,
+pub(crate) struct Ending {
+    pub(crate) fault: Option<GulletFault>,
+    pub(crate) line: u32,
 }
 
 // Expands a source whose file is open, and closes it.
-fn ending_of<F: Files>(
+pub(crate) fn ending_of<F: Files>(
     gullet: &mut Gullet,
     files: &mut F,
     env: &mut Env,
@@ -76,7 +76,7 @@ fn expand_file<F: Files>(
     Ok(ending)
 }
 
-fn text_of(alloc: Global, tokens: &Tokens) -> Result<Vec<u8>, NoMemory> {
+pub(crate) fn text_of(alloc: Global, tokens: &Tokens) -> Result<Vec<u8>, NoMemory> {
     let mut text = Vec::new(alloc);
     for token in tokens.as_slice() {
         let (mark, code) = match token {
@@ -84,7 +84,8 @@ fn text_of(alloc: Global, tokens: &Tokens) -> Result<Vec<u8>, NoMemory> {
             Token::Char(code, _) => (0, *code),
             Token::Name(name) => (b'N', (name.0 % 256) as u8),
             Token::Kept(name) => (b'K', (name.0 % 256) as u8),
-            Token::Ja(_) | Token::Param(_) => (0, b'?'),
+            Token::Param(number) => (b'#', b'0'.saturating_add(*number)),
+            Token::Ja(_) => (0, b'?'),
         };
         if mark != 0 {
             text.push(mark)?;
@@ -105,7 +106,7 @@ fn is_expanded(alloc: Global, env: &mut Env, row: &Row) -> Result<bool, Fail>
     Ok(ending.fault == Some(row.fault) && ending.line == row.line && text.as_slice() == row.tokens)
 }
 
-fn held(alloc: Global, source: &[u8]) -> Result<MemFiles, NoMemory> {
+pub(crate) fn held(alloc: Global, source: &[u8]) -> Result<MemFiles, NoMemory> {
     let file = MemFile {
         name: FileName::new(alloc, b"a").or(Err(NoMemory))?,
         bytes: source.to_vec(alloc)?,
