@@ -1,14 +1,17 @@
 -- The laws, by the names by which proofs of those who write files cite them (src/laws.rt).
-use Rattle.dvi_code.specs.Laws.{WholePagesAreFirst, CommandsLead, BytesLeadOn, CommandsDrawOn, DefinitionsStay, BodiesJoin, BodiesLead, LastPlaced, NothingDrawn, OneDrawn, ShortNamesSound}
+use Rattle.dvi_code.specs.Laws.{WholePagesAreFirst, SheetsGrow, CommandsLead, BytesLeadOn, CommandsDrawOn, DefinitionsStay, BodiesJoin, BodiesLead, LastPlaced, NothingDrawn, OneDrawn, ShortNamesSound}
 use Rattle.dvi_code.proofs.Leading.{all_inside-append, Leads-one, Leads-then, Leads-body}
 use Rattle.dvi_code.proofs.Leading as leading
 use Rattle.dvi_code.proofs.Sound.{sound-short}
 use Rattle.dvi_code.proofs.Drawing.{Draws-nil, Draws-cons, Draws-append}
 use Rattle.dvi_code.proofs.Straight.{font_stays}
-use Rattle.dvi_code.proofs.Whole.{whole_pages_first}
+use Rattle.dvi_code.proofs.Whole.{whole_pages_first, whole_grows}
 
 pub whole_pages_are_first : WholePagesAreFirst
 whole_pages_are_first = whole_pages_first
+
+pub sheets_grow : SheetsGrow
+sheets_grow x y = let grows = whole_grows x y in (grows.more, grows.is)
 
 pub commands_lead : CommandsLead
 commands_lead = Leads-one

@@ -6,7 +6,7 @@ use Rattle.dvi_code.specs.declared.page.DviPage.{DviPage}
 use Rattle.dvi_commands.specs.Commands as c
 use Rattle.dvi_commands.specs.Commands.{Command, Postamble, command}
 use Rattle.dvi_structure.specs.Places.{said, fill, is_last, placed}
-use Rattle.dvi_structure.specs.Structure.{Shape, Inside, obeyed, font_of, is_sound_font}
+use Rattle.dvi_structure.specs.Structure.{Sheet, Shape, Inside, obeyed, font_of, is_sound_font, whole_sheets}
 use Rattle.dvi_code.specs.Pages.{Widths, Pen, drawn, file_pages, whole_pages}
 use Rattle.dvi_commands.specs.Spelling.{Spells}
 use Rattle.dvi_code.specs.Reading.{Leads, Draws, all_inside, paged}
@@ -17,6 +17,11 @@ WholePagesAreFirst =
     (widths : Widths) (x y : List ℕ) (pages : List DviPage) → file_pages widths (x ++ y) ≡ Ok pages
     → (first : List DviPage) × (more : List DviPage) × (whole_pages widths x ≡ Ok first)
     × (pages ≡ first ++ more)
+
+-- the whole pages of a prefix are the first of those of all the bytes, whatever they are
+abbrev pub SheetsGrow : Type 0
+SheetsGrow = (x y : List ℕ)
+    → (more : List Sheet) × (whole_sheets (x ++ y) ≡ whole_sheets x ++ more)
 
 -- the bytes of one command lead to the structure after it
 abbrev pub CommandsLead : Type 0

@@ -1,12 +1,18 @@
 //! Laws of what DVI files mean, for those who write them. The lemmas that proofs cite for them
 //! stand in `proofs/Writing.antt`.
 
-ghost use Rattle.dvi_code.specs.Laws.{WholePagesAreFirst, CommandsLead, BytesLeadOn, CommandsDrawOn, DefinitionsStay, BodiesJoin, BodiesLead, LastPlaced, NothingDrawn, OneDrawn, ShortNamesSound};
+ghost use Rattle.dvi_code.specs.Laws.{WholePagesAreFirst, SheetsGrow, CommandsLead, BytesLeadOn, CommandsDrawOn, DefinitionsStay, BodiesJoin, BodiesLead, LastPlaced, NothingDrawn, OneDrawn, ShortNamesSound};
 
 /// The whole pages of a prefix of a file, those whose eop is in it, are the first of its pages.
 #[tactic(auto, using(crate::proofs::Writing::whole_pages_are_first, std::proofs::lemmas::Grind::common_steps))]
 pub fn whole_pages_are_the_first()
     ensures { WholePagesAreFirst }
+{}
+
+/// The whole pages of a prefix of bytes are the first of those of all the bytes, whatever they are.
+#[tactic(auto, using(crate::proofs::Writing::sheets_grow, std::proofs::lemmas::Grind::common_steps))]
+pub fn sheets_grow()
+    ensures { SheetsGrow }
 {}
 
 /// A command of a file leads from one structure to the next.

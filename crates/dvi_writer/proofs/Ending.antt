@@ -71,15 +71,15 @@ enough n = (omega arith, omega arith)
 pub stands_read : (widths : Widths) (sheets : List Sheet) (r : Walked) (last : ℤ) (fonts : List FontDef) → r ≡ over last fonts sheets → (answer r.shape r.fault >>= λ t. pages_of widths t.sheets) ≡ pages_of widths sheets
 stands_read widths sheets r last fonts e = rw e refl
 
-walked_start : (s : Shape) (at : ℕ) → (walk s (placed at 0 [])).shape ≡ s
+pub walked_start : (s : Shape) (at : ℕ) → (walk s (placed at 0 [])).shape ≡ s
 unfolding walk placed
 walked_start s at = refl
 
-sheets_of : (first : Bool) (last : ℤ) (fonts : List FontDef) (sheets : List Sheet) → (first ≡ true → sheets ≡ []) → (stood first last fonts sheets).sheets ≡ sheets
+pub sheets_of : (first : Bool) (last : ℤ) (fonts : List FontDef) (sheets : List Sheet) → (first ≡ true → sheets ≡ []) → (stood first last fonts sheets).sheets ≡ sheets
 sheets_of true last fonts sheets none = sym (none refl)
 sheets_of false last fonts sheets none = refl
 
-none_yet : (sheets : List Sheet) (n : ℕ) → length sheets ≡ n → nat_eq n 0 ≡ true → sheets ≡ []
+pub none_yet : (sheets : List Sheet) (n : ℕ) → length sheets ≡ n → nat_eq n 0 ≡ true → sheets ≡ []
 none_yet [] n e z = refl
 none_yet (s ∷ ss) n e z =
     let zero_is : n ≡ 0 = grind arith in

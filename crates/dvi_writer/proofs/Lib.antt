@@ -10,4 +10,5 @@ pub mod Fonts
 pub mod Bounds
 pub mod Leading
 pub mod Pages
+pub mod Breaking
 pub mod Ending

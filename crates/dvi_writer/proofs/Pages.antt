@@ -14,7 +14,7 @@ use Rattle.dvi_commands.specs.Commands as c
 use Rattle.dvi_commands.specs.Commands.{Command}
 use Rattle.dvi_commands.specs.Laws.{SaysFontDef, SaysEop}
 use Rattle.dvi_commands.specs.Spelling.{Spells}
-use Rattle.dvi_structure.specs.Structure.{Sheet, Shape, start, fresh, font_of, in_page}
+use Rattle.dvi_structure.specs.Structure.{Sheet, Shape, Inside, start, fresh, font_of, in_page}
 use Rattle.dvi_code.specs.declared.page.DviPage.{DviPage}
 use Rattle.dvi_code.specs.Laws.{CommandsLead, BytesLeadOn, BodiesJoin, BodiesLead, CommandsDrawOn, NothingDrawn, OneDrawn}
 use Rattle.dvi_code.specs.Pages.{Widths, page_of, page_from, pages_of}
@@ -29,7 +29,9 @@ use Rattle.box_marks.specs.Laws.{PlacedFontsAreBelow, PlacedWidthsAreGiven}
 use Rattle.box_marks.specs.Marks.{nameless, font_at, page_placed, page_point}
 use Rattle.dvi_writer.specs.Keeping.{page_place}
 use Rattle.dvi_writer.specs.Joining.{PagesJoin}
-use Rattle.dvi_writer.specs.Reading.{Asked, page_asked, HasWidths, gap, stood, has_turn, have_turn}
+use Rattle.dvi_writer.specs.declared.kept.Kept.{Kept}
+use Rattle.dvi_writer.specs.Pages.{IsPage}
+use Rattle.dvi_writer.specs.Reading.{Asked, StandsFor, page_asked, HasWidths, gap, stood, has_turn, have_turn}
 use Rattle.dvi_writer.specs.Saying.{start_hand, all_said, all_after, all_fit, IsInReach}
 use Rattle.dvi_writer.specs.Tables.{numbered, numbered_from, known, width_in}
 use Rattle.dvi_writer.specs.Written.{HasNumbers, preamble_bytes, unit_bytes, bop_bytes, definitions_bytes, opening_bytes, front_bytes}
@@ -162,16 +164,16 @@ not_first n = grind arith
 is_first : (n : ℕ) → nat_eq n 0 ≡ true → n ≡ 0
 is_first n e = grind arith
 
-module _ (lead : CommandsLead) (on : BytesLeadOn) (says_font_def : SaysFontDef) (says_eop : SaysEop) (join : BodiesJoin) (bodies : BodiesLead)
-    (nothing : NothingDrawn) (one : OneDrawn) (draw_on : CommandsDrawOn) (fonts_below : PlacedFontsAreBelow) (widths_given : PlacedWidthsAreGiven) where
-  page_leads : (at : ℕ) (last : ℤ) (first : Bool) (fonts more full : List FontDef) (sheets : List Sheet) (zs : List ℤ) (ps : List Placed) (body : List ℕ)
+-- ---- what comes before the end of a page
+
+module _ (lead : CommandsLead) (on : BytesLeadOn) (says_font_def : SaysFontDef) (join : BodiesJoin) (bodies : BodiesLead) (fonts_below : PlacedFontsAreBelow) where
+  front_leads : (at : ℕ) (last : ℤ) (first : Bool) (fonts more full : List FontDef) (sheets : List Sheet) (zs : List ℤ) (ps : List Placed) (body : List ℕ)
       → known full ≡ fonts ++ more → (first ≡ true → (last ≡ negsuc 0) × (fonts ≡ []) × (sheets ≡ []))
       → length zs ≡ 10 → AllByRecursion (FitsSigned w32) zs → FitsSigned w32 last → AllByRecursion IsSoundFont more → AllByRecursion HasNumbers more
       → Spells body (all_said start_hand ps) → AllThere (numbered_from 0 (known full)) ps
-      → (places : List ℕ) × Leads at (stood first last fonts sheets) ((((if first then preamble_bytes else []) ++ bop_bytes zs last ++ definitions_bytes (length fonts) more) ++ body) ++ 140 ∷ [])
-      (gap (pos (at + length (if first then preamble_bytes else []))) (numbered_from 0 (known full)) (sheets ++ sheet_of (numbered_from 0 (known full)) zs ps places ∷ []))
-  unfolding sheet_of
-  page_leads at last first fonts more full sheets zs ps body is none ten fit fits sound has spelt there =
+      → (places : List ℕ) × Leads at (stood first last fonts sheets) (((if first then preamble_bytes else []) ++ bop_bytes zs last ++ definitions_bytes (length fonts) more) ++ body)
+      (paged (gap (pos (at + length (if first then preamble_bytes else []))) (numbered_from 0 (known full)) sheets) zs (all_said start_hand ps) places (inside_of (all_after start_hand ps)))
+  front_leads at last first fonts more full sheets zs ps body is none ten fit fits sound has spelt there =
       let o : List ℕ = if first then preamble_bytes else [] in
       let b : List ℕ = bop_bytes zs last in
       let d : List ℕ = definitions_bytes (length fonts) more in
@@ -179,7 +181,6 @@ module _ (lead : CommandsLead) (on : BytesLeadOn) (says_font_def : SaysFontDef) 
       let at1 : ℕ = at + length o in
       let at2 : ℕ = at1 + length b in
       let at3 : ℕ = at2 + length d in
-      let at4 : ℕ = at3 + length body in
       let s0 : Shape = stood first last fonts sheets in
       let s1 : Shape = gap last (numbered_from 0 fonts) sheets in
       let s2 : Shape = begun (pos at1) (numbered_from 0 fonts) sheets zs in
@@ -192,13 +193,41 @@ module _ (lead : CommandsLead) (on : BytesLeadOn) (says_font_def : SaysFontDef) 
       let inside : all_inside all fresh (all_said start_hand ps) ≡ Ok (inside_of (all_after start_hand ps)) = all_said_inside join all start_hand ps there in
       let l4 = bodies (all_said start_hand ps) (gap (pos at1) all sheets) zs [] [] fresh (inside_of (all_after start_hand ps)) at3 body spelt inside in
       let s4 : Shape = paged (gap (pos at1) all sheets) zs (all_said start_hand ps) l4.0 (inside_of (all_after start_hand ps)) in
-      let s5 : Shape = gap (pos at1) all (sheets ++ record { counts = zs; body = all_said start_hand ps; places = l4.0; fonts = all } ∷ []) in
-      let l5 : Leads at4 s4 (140 ∷ []) s5 = lead at4 s4 s5 (140 ∷ []) _ says_eop refl (closed (pos at1) all sheets zs (all_said start_hand ps) l4.0 (inside_of (all_after start_hand ps)).chosen at4) in
-      let whole : Leads at s0 (o ++ (b ++ (d ++ (body ++ 140 ∷ [])))) s5 =
-      on at s0 s1 s5 o _ l1 (on at1 s1 s2 s5 b _ l2 (on at2 s2 s3 s5 d _ l3 (on at3 s3 s4 s5 body (140 ∷ []) l4.1 l5))) in
-      let grouped : o ++ (b ++ (d ++ (body ++ 140 ∷ []))) ≡ (((o ++ b) ++ d) ++ body) ++ 140 ∷ [] = sym (simp append_assoc) in
-      (l4.0, subst (λ (t : List ℕ). Leads at s0 t s5) grouped whole)
+      let whole : Leads at s0 (o ++ (b ++ (d ++ body))) s4 =
+      on at s0 s1 s4 o _ l1 (on at1 s1 s2 s4 b _ l2 (on at2 s2 s3 s4 d body l3 l4.1)) in
+      let grouped : o ++ (b ++ (d ++ body)) ≡ ((o ++ b) ++ d) ++ body = sym (simp append_assoc) in
+      (l4.0, subst (λ (t : List ℕ). Leads at s0 t s4) grouped whole)
 
+  -- up to the end of a page that is written after those before it
+  pub led_front : (k : Kept) (fonts full more : List FontDef) (b : BoxTree) (zs : List ℤ) (out : List ℕ) (turned : Bool) (pages : List Asked) (bytes : List ℕ)
+      (page : IsPage k (length fonts) b zs (known full) out turned) → known full ≡ fonts ++ more → All IsSoundFont full → FontsAreBelow (length full) b → length zs ≡ 10 → (stood_for : StandsFor k fonts pages bytes)
+      → (places : List ℕ) × Leads (length bytes) (stood (nat_eq k.pages 0) k.last fonts stood_for.sheets) (front_bytes k zs (length fonts) (known full) ++ page.body)
+      (paged (gap (pos (page_place k)) (numbered_from 0 (known full)) stood_for.sheets) zs (all_said start_hand (page_placed b)) places (inside_of (all_after start_hand (page_placed b))))
+  unfolding front_bytes
+  led_front k fonts full more b zs out turned pages bytes page is sound below ten stood_for =
+      let table : List FontDef = known full in
+      let ps : List Placed = page_placed b in
+      let first : Bool = nat_eq k.pages 0 in
+      let o : List ℕ = if first then preamble_bytes else [] in
+      let rest : drop (length fonts) table ≡ more = rest_is table fonts more is in
+      let r_below = recursion_from_All (λ p. PieceMeets (IsBelow (length full)) p.piece) ps (fonts_below (length full) b (page_point b) below) in
+      let sound_rest : All IsSoundFont more = subst (All IsSoundFont) rest (All-drop IsSoundFont (length fonts) table (known_sound full sound)) in
+      let numbers : All HasNumbers more = subst (All HasNumbers) rest page.numbers in
+      let none : first ≡ true → (k.last ≡ negsuc 0) × (fonts ≡ []) × (stood_for.sheets ≡ []) =
+      λ e. (let zero_pages : k.pages ≡ 0 = is_first k.pages e in
+      let f = stood_for.fresh zero_pages in
+      (f.last, f.none, nothing_yet stood_for.sheets (stood_for.count ∙ zero_pages))) in
+      let led = front_leads (length bytes) k.last first fonts more full stood_for.sheets zs ps page.body is none ten (recursion_from_All (FitsSigned w32) zs page.counts_fit) page.last_fits
+      (recursion_from_All IsSoundFont more sound_rest) (recursion_from_All HasNumbers more numbers) page.spelt (all_there full ps page.sound r_below) in
+      let place : length bytes + length o ≡ page_place k = ap (λ (n : ℕ). n + length o) stood_for.len ∙ ap (λ (n : ℕ). k.given + n) (opening_long first) in
+      let s0 : Shape = stood first k.last fonts stood_for.sheets in
+      let s4 : ℕ → Shape = λ n. paged (gap (pos n) (numbered_from 0 table) stood_for.sheets) zs (all_said start_hand ps) led.0 (inside_of (all_after start_hand ps)) in
+      let front_is : (o ++ bop_bytes zs k.last ++ definitions_bytes (length fonts) more) ++ page.body ≡ (o ++ bop_bytes zs k.last ++ definitions_bytes (length fonts) (drop (length fonts) table)) ++ page.body =
+      ap (λ (xs : List FontDef). (o ++ bop_bytes zs k.last ++ definitions_bytes (length fonts) xs) ++ page.body) (sym rest) in
+      (led.0, subst (λ (n : ℕ). Leads (length bytes) s0 ((o ++ bop_bytes zs k.last ++ definitions_bytes (length fonts) (drop (length fonts) table)) ++ page.body) (s4 n)) place (subst (λ (t : List ℕ). Leads (length bytes) s0 t (s4 (length bytes + length o))) front_is led.1))
+
+module _ (lead : CommandsLead) (on : BytesLeadOn) (says_font_def : SaysFontDef) (says_eop : SaysEop) (join : BodiesJoin) (bodies : BodiesLead)
+    (nothing : NothingDrawn) (one : OneDrawn) (draw_on : CommandsDrawOn) (fonts_below : PlacedFontsAreBelow) (widths_given : PlacedWidthsAreGiven) where
   page_reads : (widths : Widths) (full : List FontDef) (zs : List ℤ) (b : BoxTree) (places : List ℕ) → AreSound (page_placed b) → all_fit (page_placed b) ≡ true
       → FontsAreBelow (length full) b → HasWidths widths (record { counts = zs; fonts = full; node = b })
       → page_of widths (sheet_of (numbered_from 0 (known full)) zs (page_placed b) places) ≡ Ok (page_asked (record { counts = zs; fonts = full; node = b }))
@@ -212,32 +241,26 @@ module _ (lead : CommandsLead) (on : BytesLeadOn) (says_font_def : SaysFontDef) 
       ap (page_from (record { counts = zs; body = all_said start_hand ps; places = places; fonts = all })) (drew.on 0)
 
   pub pages_join : PagesJoin
-  unfolding front_bytes sheet_of
+  unfolding sheet_of
   pages_join k fonts full more b zs out turned pages bytes page is sound below ten stood_for =
       let table : List FontDef = known full in
       let all : List FontDef = numbered_from 0 table in
       let ps : List Placed = page_placed b in
       let first : Bool = nat_eq k.pages 0 in
-      let rest : drop (length fonts) table ≡ more = rest_is table fonts more is in
-      let r_below = recursion_from_All (λ p. PieceMeets (IsBelow (length full)) p.piece) ps (fonts_below (length full) b (page_point b) below) in
-      let sound_rest : All IsSoundFont more = subst (All IsSoundFont) rest (All-drop IsSoundFont (length fonts) table (known_sound full sound)) in
-      let numbers : All HasNumbers more = subst (All HasNumbers) rest page.numbers in
-      let none : first ≡ true → (k.last ≡ negsuc 0) × (fonts ≡ []) × (stood_for.sheets ≡ []) =
-      λ e. (let zero_pages : k.pages ≡ 0 = is_first k.pages e in
-      let f = stood_for.fresh zero_pages in
-      (f.last, f.none, nothing_yet stood_for.sheets (stood_for.count ∙ zero_pages))) in
-      let led = page_leads (length bytes) k.last first fonts more full stood_for.sheets zs ps page.body is none ten (recursion_from_All (FitsSigned w32) zs page.counts_fit) page.last_fits
-      (recursion_from_All IsSoundFont more sound_rest) (recursion_from_All HasNumbers more numbers) page.spelt (all_there full ps page.sound r_below) in
+      let led = led_front lead on says_font_def join bodies fonts_below k fonts full more b zs out turned pages bytes page is sound below ten stood_for in
       let sheet : Sheet = record { counts = zs; body = all_said start_hand ps; places = led.0; fonts = all } in
       let asked : Asked = record { counts = zs; fonts = full; node = b } in
-      let place : length bytes + length (if first then preamble_bytes else []) ≡ page_place k = ap (λ (n : ℕ). n + length (if first then preamble_bytes else [])) stood_for.len ∙ ap (λ (n : ℕ). k.given + n) (opening_long first) in
-      let out_is : ((((if first then preamble_bytes else []) ++ bop_bytes zs k.last ++ definitions_bytes (length fonts) more) ++ page.body) ++ 140 ∷ []) ≡ out =
-      sym (page.is ∙ ap (λ (xs : List FontDef). (((opening_bytes k ++ bop_bytes zs k.last ++ definitions_bytes (length fonts) xs) ++ page.body) ++ 140 ∷ [])) rest) in
-      let s5 : ℤ → Shape = λ z. gap z all (stood_for.sheets ++ sheet ∷ []) in
-      let led_out : Leads (length bytes) (stood first k.last fonts stood_for.sheets) out (s5 (pos (page_place k))) =
-      subst (λ (n : ℕ). Leads (length bytes) (stood first k.last fonts stood_for.sheets) out (s5 (pos n))) place (subst (λ (t : List ℕ). Leads (length bytes) (stood first k.last fonts stood_for.sheets) t (s5 (pos (length bytes + length (if first then preamble_bytes else []))))) out_is led.1) in
-      let both : Leads 0 start (bytes ++ out) (s5 (pos (page_place k))) = on 0 start (stood first k.last fonts stood_for.sheets) (s5 (pos (page_place k))) bytes out stood_for.leads (subst (λ (n : ℕ). Leads n (stood first k.last fonts stood_for.sheets) out (s5 (pos (page_place k)))) (sym (zero-add (length bytes))) led_out) in
-      let later : stood (nat_eq (k.pages + 1) 0) (pos (page_place k)) table (stood_for.sheets ++ sheet ∷ []) ≡ s5 (pos (page_place k)) = ap (λ (t : Bool). stood t (pos (page_place k)) table (stood_for.sheets ++ sheet ∷ [])) (not_first k.pages) in
+      let front : List ℕ = front_bytes k zs (length fonts) table ++ page.body in
+      let after : Inside = inside_of (all_after start_hand ps) in
+      let s0 : Shape = stood first k.last fonts stood_for.sheets in
+      let s4 : Shape = paged (gap (pos (page_place k)) all stood_for.sheets) zs (all_said start_hand ps) led.0 after in
+      let s5 : Shape = gap (pos (page_place k)) all (stood_for.sheets ++ sheet ∷ []) in
+      let l5 : Leads (length bytes + length front) s4 (140 ∷ []) s5 =
+      lead (length bytes + length front) s4 s5 (140 ∷ []) _ says_eop refl (closed (pos (page_place k)) all stood_for.sheets zs (all_said start_hand ps) led.0 after.chosen (length bytes + length front)) in
+      let led_page : Leads (length bytes) s0 (front ++ 140 ∷ []) s5 = on (length bytes) s0 s4 s5 front (140 ∷ []) led.1 l5 in
+      let led_out : Leads (length bytes) s0 out s5 = subst (λ (t : List ℕ). Leads (length bytes) s0 t s5) (sym page.is) led_page in
+      let both : Leads 0 start (bytes ++ out) s5 = on 0 start s0 s5 bytes out stood_for.leads (subst (λ (n : ℕ). Leads n s0 out s5) (sym (zero-add (length bytes))) led_out) in
+      let later : stood (nat_eq (k.pages + 1) 0) (pos (page_place k)) table (stood_for.sheets ++ sheet ∷ []) ≡ s5 = ap (λ (t : Bool). stood t (pos (page_place k)) table (stood_for.sheets ++ sheet ∷ [])) (not_first k.pages) in
       let turn_is : turned ≡ has_turn (all_said start_hand ps) = page.turn ∙ sym (all_turns start_hand ps) in
       record {
         sheets = stood_for.sheets ++ sheet ∷ [];

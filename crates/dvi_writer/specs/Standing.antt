@@ -71,9 +71,13 @@ abbrev pub unless : Option WriteFault → Result (Unit {0}) WriteFault
 unless None = Ok tt
 unless (Some fault) = Err fault
 
+-- whether a page may come after so many of so much weight, and why not
+abbrev pub permitted_after : ℕ → ℕ → BoxTree → Result (Unit {0}) WriteFault
+permitted_after pages weight_so_far b = unless (limit_passed (limit_of pages weight_so_far b) b)
+
 -- whether a page may be written, and why not
 abbrev pub permitted : Writer → BoxTree → Result (Unit {0}) WriteFault
-permitted w b = unless (limit_passed (limit_of (page_count w) (weight_shipped w) b) b)
+permitted w b = permitted_after (page_count w) (weight_shipped w) b
 
 abbrev pub write_cause : WriteFault → Cause
 write_cause PagesFull = Determined

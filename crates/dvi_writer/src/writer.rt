@@ -1,17 +1,17 @@
 //! Pages as they come, and the end.
 
-ghost use Rattle.std.specs.Prelude.{◌≡◌, ◌+◌, ◌<◌, ◌≤◌, ◌^◌, ◌++◌, ◌∷◌, [], length, map, drop, true, List, ℕ, Ok, OnOk, OnErr, IfOk, IfErr};
+ghost use Rattle.std.specs.Prelude.{◌≡◌, ◌+◌, ◌<◌, ◌≤◌, ◌^◌, ◌++◌, ◌∷◌, [], length, map, take, drop, true, List, ℕ, Ok, OnOk, OnErr, IfOk, IfErr};
 ghost use Rattle.std.specs.List.{All};
 ghost use Rattle.ts_base.specs.Agreement.{Agrees};
 ghost use Rattle.dvi_structure.specs.Structure.{is_sound_font};
-ghost use Rattle.dvi_code.specs.Pages.{Widths, file_pages};
+ghost use Rattle.dvi_code.specs.Pages.{Widths, file_pages, whole_pages};
 ghost use Rattle.box_tree.specs.Sound.{IsSound};
 ghost use Rattle.box_marks.specs.Glyphs.{FontsAreBelow};
 ghost use Rattle.dvi_writer.specs.Keeping.{IsBounded};
 
 use crate::ends::put_end;
 use crate::fault::WriteFault;
-use crate::joining::{files_end, pages_join};
+use crate::joining::{files_end, pages_break_off, pages_join};
 use crate::kept::Kept;
 use crate::page::page_of;
 use crate::table::{FontTable, known, same_fonts};
@@ -67,13 +67,17 @@ impl Writer {
         ensures exact { Agrees (λ v. tt) write_cause result (permitted self.old node.now) }
         ensures counted { OnOk result (Counted self.old node.now fonts.now self.new) }
         ensures refused { OnErr result (self.new ≡ self.old) }
-        ensures ends { IfOk result (λ v. (front : List ℕ) × (v.items ≡ front ++ 140 ∷ [])) }
         ensures stands { IfOk result (λ v. (pages : List Asked) (bytes : List ℕ)
             → Stands self.old pages bytes
             → Stands self.new (pages ++ asked_for counts.now fonts.now node.now ∷ [])
             (bytes ++ v.items)) }
+        ensures partly { IfOk result (λ v. (pages : List Asked) (bytes : List ℕ) (n : ℕ)
+            (widths : Widths) → Stands self.old pages bytes → n < length v.items
+            → All (HasWidths widths) pages
+            → whole_pages widths (bytes ++ take n v.items) ≡ Ok (map page_asked pages)) }
     {
         pages_join();
+        pages_break_off();
         few_are_placed();
         match self.kept.limit(node) {
             Some(fault) => return Err(fault),

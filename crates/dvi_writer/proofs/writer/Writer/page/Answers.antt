@@ -26,6 +26,3 @@ invariant_of-drop c =
     let bounds = writer_bounded c.args.self.now.kept c.args.self.now.fonts c.args.fonts.now c.requires.begins.0 _ _ _ c.len-2.result c.args.node.now c.args.counts.now _ _ c.in_ok-page.ensures.ok
     c.len.ensures table c.in_ok-copies.ensures long c.few_are_placed.ensures c.requires.fonts_sound c.told-counts c.requires.begins.1 c.args.self.now.bounds free in
     record { bounds = rw c.after-kept.ensures bounds }
-
-pub returns-clause-ends : goal.returns-clause-ends
-returns-clause-ends c = (_, c.in_ok-page.ensures.ok.is)
