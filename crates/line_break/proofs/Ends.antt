@@ -184,5 +184,5 @@ both_near l r t a b e =
     let near : AreNear (2 ^ 60) t = subst (λ (v : Totals). AreNear (2 ^ 60) v) (sym e) (nearer (totals (skip l ∷ skip r ∷ [])) (totals_near Yoko (skip l ∷ skip r ∷ []) (omega arith) (a, (b, tt)))) in
     near.stretch
 
-pub adj_near : (a z : ℤ) → a ≡ z → SFits w32 a → IsWithin (2 ^ 31) z
-adj_near a z e f = (omega (arith, ints, e, f.sfits), omega (arith, ints, e, f.sfits))
+pub adj_near : (z : ℤ) → SFits w32 z → IsWithin (2 ^ 31) z
+adj_near z f = (omega (arith, ints, f.sfits), omega (arith, ints, f.sfits))

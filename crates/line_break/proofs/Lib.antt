@@ -6,6 +6,7 @@ pub mod ByClass
 pub mod Step
 pub mod Running
 pub mod Weights
+pub mod Loose
 pub mod Prepared
 pub mod Ends
 pub mod Ended

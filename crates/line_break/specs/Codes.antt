@@ -54,6 +54,10 @@ offered f r = offered_as r.class f r
 abbrev pub made : ℕ → Weight → Reached → ℤ → ℕ → Reached
 made b line x d i = record { at = b; class = line.class; sum = x.sum +ℤ d; from = i }
 
+-- at no cost
+abbrev pub taken : ℕ → Weight → Reached → ℕ → Reached
+taken b line x i = record { at = b; class = line.class; sum = x.sum; from = i }
+
 -- by the line from the state with the index i, which is x
 abbrev pub reach : Pass → ℕ → ℕ → Reached → Reached
 reach p b i x = record {
@@ -106,14 +110,13 @@ abbrev pub is_empty : {X : Type 0} → List X → Bool
 is_empty [] = true
 is_empty (x ∷ xs) = false
 
--- the line from the state with the index i at no cost
+-- the line from the state with the index i, which is x, at no cost
+abbrev pub rescue_from : Pass → ℕ → ℕ → Reached → Reached
+rescue_from p b i x =
+    record { at = b; class = (weight p x.at b).class; sum = x.sum; from = i }
+
 abbrev pub rescue_by : Pass → ℕ → List Reached → ℕ → Reached
-rescue_by p b states i = record {
-  at = b;
-  class = (weight p (at_index states i).at b).class;
-  sum = (at_index states i).sum;
-  from = i;
-}
+rescue_by p b states i = rescue_from p b i (at_index states i)
 
 abbrev pub last_rescue : Pass → ℕ → List Reached → List ℕ → Option Reached
 last_rescue p b states active = fold (λ found i. Some (rescue_by p b states i)) None active

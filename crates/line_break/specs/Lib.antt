@@ -2,6 +2,7 @@ pub mod Lines
 pub mod Best
 pub mod Walks
 pub mod Codes
+pub mod Loose
 pub mod Running
 pub mod Ready
 pub mod Paragraphs

@@ -1,5 +1,5 @@
 -- What the active list stands for between two breaks.
-use Rattle.std.specs.Prelude.{[], ◌∷◌, ◌≤◌, Option, Some, None, ◌≡◌, ℕ, zero, suc, ◌+◌, ◌*◌, ◌^◌, ◌<◌, List, map, length, slice_index_or}
+use Rattle.std.specs.Prelude.{true, false, ℤ, pos, neg_ℤ, int_lt, int_le, [], ◌∷◌, ◌≤◌, Option, Some, None, ◌≡◌, ℕ, zero, suc, ◌+◌, ◌*◌, ◌^◌, ◌<◌, List, map, length, slice_index_or}
 use Rattle.std.specs.List.{filter, All}
 use Rattle.line_break.specs.declared.weight.Class.{Class}
 use Rattle.ts_geometry.specs.declared.direction.Dir.{Dir}
@@ -8,12 +8,14 @@ use Rattle.box_tree.specs.Bounds.{IsDimen}
 use Rattle.box_tree.specs.Nodes.{tree_items}
 use Rattle.box_tree.specs.Sound.{IsSoundGlue, AreSound}
 use Rattle.line_break.specs.declared.shape.ParaShape.{ParaShape}
-use Rattle.line_break.specs.Lines.{Pass, demerits, skip, totals, with_extra}
-use Rattle.line_break.specs.Best.{State, start, is_open, states_to, chosen}
+use Rattle.line_break.specs.Lines.{Pass, demerits, penalty, skip, totals, with_extra}
+use Rattle.line_break.specs.Best.{State, start, is_open, states_to, chosen, last_break}
 use Rattle.line_break.specs.declared.states.Reached.{Reached}
 use Rattle.ts_geometry.specs.Numbers.{IsWithin}
+use Rattle.line_break.specs.declared.search.End.{End}
 use Rattle.line_break.specs.declared.search.Lines.{Lines as PassLines}
 use Rattle.line_break.specs.Codes.{meaning, IsChain}
+use Rattle.line_break.specs.Loose.{IsLimit}
 use Rattle.line_break.specs.declared.legal.Break.{Break}
 use Rattle.line_break.specs.declared.totals.Totals.{Totals}
 use Rattle.line_break.specs.Running.{minus, all_breaks}
@@ -48,10 +50,30 @@ pub record IsPrepared (l : PassLines) : Type 0 where
   pub extra : IsDimen l.extra
   pub few : length l.items.now ≤ 700000
   pub adj : IsWithin (2 ^ 31) l.shape.adj_demerits
+  pub limit : IsLimit l.threshold l.limit
 
 -- the background less the totals of the items from break b on
 abbrev pub IsBeforeEnd : PassLines → ℕ → Totals → Type 0
 IsBeforeEnd l b t = (d : Break) → t ≡ minus l.background (slice_index_or l.breaks.now b d).from
+
+-- 0, or the place of break b
+abbrev pub IsUntil : PassLines → ℕ → ℕ → Type 0
+IsUntil l b n = (d : Break) → n ≤ (slice_index_or l.breaks.now b d).place
+
+-- a line that is worse than the threshold, and isn't overfull, changes nothing at a break of this
+-- penalty
+abbrev pub MayPass : ℤ → ℤ → Type 0
+MayPass threshold penalty =
+    (int_lt threshold (pos 10000) ≡ true) × (int_le penalty (neg_ℤ (pos 10000)) ≡ false)
+
+-- what the lines to a break have in common
+pub record IsEnd (l : PassLines) (e : End) : Type 0 where
+  pub start : 0 < e.at
+  pub inside : e.at ≤ last_break (pass_of l)
+  pub before : IsBeforeEnd l e.at e.before
+  pub penalty : e.penalty ≡ penalty (pass_of l) e.at
+  pub until : IsUntil l e.at e.until
+  pub passes : 0 < e.until → MayPass l.threshold e.penalty
 
 -- the states that are open at b
 abbrev pub open_states : Pass → ℕ → List State → List State

@@ -21,6 +21,7 @@ use crate::search::{Lines, one_pass};
 use crate::shape::{BreakAt, ParaShape};
 use crate::states::Reached;
 use crate::totals::{Totals, sum};
+use crate::weight::limit_above;
 use box_tree::Item;
 use std::alloc::{AllocError, Global};
 use std::sync::ledger::Ledger;
@@ -214,12 +215,10 @@ fn first<'a>(items: &'a [Item], breaks: &'a [Break], shape: &ParaShape) -> Lines
     ensures prepared { IsPrepared result }
     ensures pass { pass_of result ≡ first_pass items.now shape.now }
 {
-    let adj = shape.adj_demerits;
     Lines::new(
         items,
         breaks,
         shape,
-        adj,
         capped(shape.pretolerance),
         Sp(0),
         false,
@@ -236,12 +235,10 @@ fn second<'a>(items: &'a [Item], breaks: &'a [Break], shape: &ParaShape) -> Line
     ensures pass { pass_of result ≡ second_pass items.now shape.now }
 {
     let is_last = !(0 < shape.emergency.0);
-    let adj = shape.adj_demerits;
     Lines::new(
         items,
         breaks,
         shape,
-        adj,
         capped(shape.tolerance),
         Sp(0),
         is_last,
@@ -257,12 +254,10 @@ fn third<'a>(items: &'a [Item], breaks: &'a [Break], shape: &ParaShape) -> Lines
     ensures prepared { IsPrepared result }
     ensures pass { pass_of result ≡ third_pass items.now shape.now }
 {
-    let adj = shape.adj_demerits;
     Lines::new(
         items,
         breaks,
         shape,
-        adj,
         capped(shape.tolerance),
         shape.emergency,
         true,
@@ -285,7 +280,6 @@ impl<'a> Lines<'a> {
         items: &'a [Item],
         breaks: &'a [Break],
         shape: &ParaShape,
-        _adj: i32,
         threshold: i32,
         extra: Sp,
         is_last: bool,
@@ -295,17 +289,19 @@ impl<'a> Lines<'a> {
         requires shape_sound { IsSoundShape shape.now }
         requires few { length items.now ≤ 700000 }
         requires extra { IsDimen extra }
-        requires adj { _adj ≡ shape.now.adj_demerits }
         ensures prepared { IsPrepared result }
         ensures pass { pass_of result
             ≡ made_pass items.now shape.now threshold extra.0 is_last }
     {
+        // Once it is read it is known to have 32 bits.
+        let _adj = shape.adj_demerits;
         Lines {
             items,
             breaks,
             shape: *shape,
             background: background(shape, extra),
             threshold,
+            limit: limit_above(threshold),
             extra,
             is_last,
         }

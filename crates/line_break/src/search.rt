@@ -1,12 +1,13 @@
 //! One pass over a paragraph: the active list of open states.
 
-ghost use Rattle.std.specs.Prelude.{◌≡◌, ℕ, suc, ◌≤◌, ◌<◌, ◌+◌, ◌*◌, ◌^◌, ◌++◌, ◌∷◌, [], length, List, IfOk, OnOk, ℤ, pos, neg_ℤ, ◌+ℤ◌, ◌≤ℤ◌, int_le, not, ◌||◌, Option, Some, None, ◌&&◌};
+ghost use Rattle.std.specs.Prelude.{◌≡◌, ℕ, suc, ◌≤◌, ◌<◌, ◌+◌, ◌*◌, ◌^◌, ◌++◌, ◌∷◌, [], length, List, IfOk, OnOk, ℤ, pos, neg_ℤ, ◌+ℤ◌, ◌≤ℤ◌, int_le, not, ◌||◌, true, false, Some, ◌&&◌};
 ghost use Rattle.std.specs.List.{All, fold, filter, range_with_len};
 ghost use Rattle.ts_geometry.specs.Numbers.{IsWithin};
 ghost use Rattle.line_break.specs.Best.{last_break, states_to};
-ghost use Rattle.line_break.specs.Codes.{made, found_with, found_by, left_open, nothing, first, at_index, fits, last_rescue, found_list, new_codes, meaning, with_open, open_count, IsChain};
-ghost use Rattle.line_break.specs.Lines.{weight, closes, is_forced, penalty, place_of, plain_demerits, demerits, totals, line, with_extra};
-ghost use Rattle.line_break.specs.Ready.{pass_of, IsPrepared, IsBeforeEnd, Ready, HasSmallDemerits, pairs};
+ghost use Rattle.line_break.specs.Codes.{made, taken, found_with, found_by, left_open, rescue_from, last_rescue, found_list, new_codes, meaning, with_open, open_count, is_empty, IsChain};
+ghost use Rattle.line_break.specs.Loose.{IsTooLoose, IsKnown};
+ghost use Rattle.line_break.specs.Lines.{weight, closes, penalty, place_of, demerits, totals, line, with_extra};
+ghost use Rattle.line_break.specs.Ready.{pass_of, IsPrepared, IsBeforeEnd, IsUntil, MayPass, IsEnd, Ready, HasSmallDemerits, pairs};
 ghost use Rattle.line_break.specs.Running.{AreNear};
 
 use crate::demerits::{are_apart, plain_demerits};
@@ -15,7 +16,7 @@ use crate::legal::Break;
 use crate::shape::ParaShape;
 use crate::states::{Found, Reached, append, kept, offer, or_rescue};
 use crate::totals::Totals;
-use crate::weight::{Class, Weight, weight_at};
+use crate::weight::{Class, Weight, is_past, weight_at};
 use box_tree::Item;
 use std::alloc::{AllocError, Global};
 use std::sync::ledger::Ledger;
@@ -23,7 +24,8 @@ use ts_base::Steps;
 use ts_geometry::Sp;
 
 /// What a pass asks of its lines. The background is the total of the skips, with what the pass adds
-/// to the stretch.
+/// to the stretch. The limit is the least ratio of shortfall to stretch, in units of 1/297, that is
+/// worse than the threshold.
 #[derive(Clone, Copy)]
 pub(crate) struct Lines<'a> {
     pub(crate) items: &'a [Item],
@@ -31,13 +33,49 @@ pub(crate) struct Lines<'a> {
     pub(crate) shape: ParaShape,
     pub(crate) background: Totals,
     pub(crate) threshold: i32,
+    pub(crate) limit: u16,
     pub(crate) extra: Sp,
     pub(crate) is_last: bool,
 }
 
+/// What the lines to one break have in common.
+#[derive(Clone, Copy)]
+pub(crate) struct End {
+    /// The number of the break.
+    pub(crate) at: usize,
+    /// The background less the totals of the items from the break on, which every line has in it.
+    pub(crate) before: Totals,
+    pub(crate) penalty: i64,
+    /// The place of the break, or 0 where no line is passed over.
+    pub(crate) until: usize,
+}
+
+impl End {
+    fn is_forced(&self) -> bool
+        ensures { result ≡ int_le self.now.penalty (neg_ℤ (pos 10000)) }
+    {
+        self.penalty <= -10_000
+    }
+}
+
 impl<'a> Lines<'a> {
-    /// Returns the background less the totals of the items from break `b` on, which every line to
-    /// `b` has in it.
+    /// Returns what the lines to break `b` have in common.
+    fn end(&self, b: usize) -> End
+        requires prepared { IsPrepared self.now }
+        requires start { 0 < b }
+        requires inside { b ≤ last_break (pass_of self.now) }
+        ensures value { IsEnd self.now result }
+        ensures at { result.at ≡ b }
+    {
+        let penalty = self.penalty(b);
+        End {
+            at: b,
+            before: self.before_end(b),
+            penalty,
+            until: self.until(b, penalty),
+        }
+    }
+
     fn before_end(&self, b: usize) -> Totals
         requires prepared { IsPrepared self.now }
         requires inside { b ≤ last_break (pass_of self.now) }
@@ -46,34 +84,63 @@ impl<'a> Lines<'a> {
         self.background.minus(&self.breaks[b].from)
     }
 
-    /// Returns the totals of the line from break `s` to break `b`.
-    fn totals(&self, before_end: &Totals, s: usize, b: usize) -> Totals
+    /// Returns the place of a break, or 0 where a line that is too short still counts: where the
+    /// break is forced, or no line is too bad.
+    fn until(&self, b: usize, penalty: i64) -> usize
         requires prepared { IsPrepared self.now }
-        requires before { s < b }
         requires inside { b ≤ last_break (pass_of self.now) }
-        requires before_end { IsBeforeEnd self.now b before_end.now }
+        ensures inside { IsUntil self.now b result }
+        ensures passes { 0 < result → MayPass self.now.threshold penalty }
+    {
+        if self.threshold < 10_000 && -10_000 < penalty {
+            self.breaks[b].place
+        } else {
+            0
+        }
+    }
+
+    /// Returns the totals of the line from break `s`.
+    fn totals(&self, end: &End, s: usize) -> Totals
+        requires prepared { IsPrepared self.now }
+        requires end { IsEnd self.now end.now }
+        requires before { s < end.now.at }
         ensures value { result
-            ≡ with_extra (pass_of self.now).extra (totals (line (pass_of self.now) s b)) }
+            ≡ with_extra (pass_of self.now).extra (totals (line (pass_of self.now) s end.now.at)) }
         ensures near { AreNear (2 ^ 58) result }
     {
         let start = &self.breaks[s];
-        if start.kept < self.breaks[b].place {
-            before_end.plus(&start.after)
+        if start.kept < self.breaks[end.at].place {
+            end.before.plus(&start.after)
         } else {
             self.background
         }
     }
 
-    /// Returns how the line from break `s` to break `b` fits.
+    /// Returns how the line from break `s` fits.
     #[tactic(auto, unfolding(crate::specs::Lines::weight))]
-    fn weigh(&self, before_end: &Totals, s: usize, b: usize) -> Weight
+    fn weigh(&self, end: &End, s: usize) -> Weight
         requires prepared { IsPrepared self.now }
-        requires before { s < b }
-        requires inside { b ≤ last_break (pass_of self.now) }
-        requires before_end { IsBeforeEnd self.now b before_end.now }
-        ensures { result ≡ weight (pass_of self.now) s b }
+        requires end { IsEnd self.now end.now }
+        requires before { s < end.now.at }
+        ensures { result ≡ weight (pass_of self.now) s end.now.at }
     {
-        weight_at(self.shape.hsize, &self.totals(before_end, s, b))
+        weight_at(self.shape.hsize, &self.totals(end, s))
+    }
+
+    /// Returns whether the line from break `s` is one that stretches too far and leaves its start
+    /// open. Most lines are such, and their badness isn't needed.
+    fn is_too_loose(&self, end: &End, s: usize) -> bool
+        requires prepared { IsPrepared self.now }
+        requires end { IsEnd self.now end.now }
+        requires before { s < end.now.at }
+        ensures { result ≡ true → IsTooLoose (pass_of self.now) s end.now.at }
+    {
+        let start = &self.breaks[s];
+        if start.kept < end.until {
+            is_past(self.shape.hsize, &end.before.plus(&start.after), self.limit)
+        } else {
+            false
+        }
     }
 
     fn adj_demerits(&self) -> i32
@@ -108,39 +175,16 @@ impl<'a> Lines<'a> {
     {
         penalty_at(&self.items[self.place(b)])
     }
-
-    fn is_forced(&self, b: usize) -> bool
-        requires prepared { IsPrepared self.now }
-        requires start { 0 < b }
-        requires inside { b ≤ last_break (pass_of self.now) }
-        ensures { result ≡ is_forced (pass_of self.now) b }
-    {
-        self.penalty(b) <= -10_000
-    }
-
-    /// Returns the demerits of the line to `b` that fits like this, but for `\adjdemerits`.
-    fn plain_demerits(&self, _s: usize, b: usize, line: Weight) -> i64
-        requires prepared { IsPrepared self.now }
-        requires start { 0 < b }
-        requires inside { b ≤ last_break (pass_of self.now) }
-        requires line { line ≡ weight (pass_of self.now) _s b }
-        ensures value { result ≡ plain_demerits (pass_of self.now) _s b }
-        ensures bounded { IsWithin (2 ^ 32) result }
-    {
-        plain_demerits(self.shape.line_penalty, line.badness, self.penalty(b))
-    }
 }
 
-/// The demerits of the line from `x` to `b`.
-fn demerits_after(lines: &Lines, b: usize, x: &Reached, line: Weight) -> i64
-    requires prepared { IsPrepared lines.now }
-    requires start { 0 < b }
-    requires inside { b ≤ last_break (pass_of lines.now) }
-    requires line { line ≡ weight (pass_of lines.now) x.now.at b }
-    ensures value { result ≡ demerits (pass_of lines.now) x.now.class x.now.at b }
+/// The demerits of the line from `x`.
+fn demerits_after(lines: &Lines, end: &End, x: &Reached, line: Weight) -> i64
+    requires end { IsEnd lines.now end.now }
+    requires line { line ≡ weight (pass_of lines.now) x.now.at end.now.at }
+    ensures value { result ≡ demerits (pass_of lines.now) x.now.class x.now.at end.now.at }
     ensures bounded { IsWithin (2 ^ 33) result }
 {
-    let plain = lines.plain_demerits(x.at, b, line);
+    let plain = plain_demerits(lines.shape.line_penalty, line.badness, end.penalty);
     if are_apart(x.class, line.class) {
         plain + lines.adj_demerits() as i64
     } else {
@@ -149,17 +193,15 @@ fn demerits_after(lines: &Lines, b: usize, x: &Reached, line: Weight) -> i64
 }
 
 /// Keeps what the line from the state with the index `i` leads to if it is admissible.
-fn find_from(lines: &Lines, b: usize, found: &mut Found, i: usize, x: &Reached, line: Weight)
-    requires prepared { IsPrepared lines.now }
-    requires start { 0 < b }
-    requires inside { b ≤ last_break (pass_of lines.now) }
-    requires line { line ≡ weight (pass_of lines.now) x.now.at b }
+fn find_from(lines: &Lines, end: &End, found: &mut Found, i: usize, x: &Reached, line: Weight)
+    requires end { IsEnd lines.now end.now }
+    requires line { line ≡ weight (pass_of lines.now) x.now.at end.now.at }
     requires bounded { IsWithin (2 ^ 60) x.now.sum }
-    ensures { found.new ≡ found_with (pass_of lines.now) b found.old i x.now }
+    ensures { found.new ≡ found_with (pass_of lines.now) end.now.at found.old i x.now }
 {
     if is_fit(line, lines.threshold) {
-        let demerits = demerits_after(lines, b, x, line);
-        offer(found, reach(b, line, x, demerits, i));
+        let demerits = demerits_after(lines, end, x, line);
+        offer(found, reach(end.at, line, x, demerits, i));
     }
 }
 
@@ -205,12 +247,81 @@ fn keep_open(active: &mut Vec<usize>, left: usize, i: usize, stays: bool) -> usi
     }
 }
 
-/// What a break comes to: the best of each class, and the line that is taken where nothing else is
-/// left.
+/// What a break comes to: the best of each class, the line that is taken where nothing else is
+/// left, and the start whose line was last found too loose, or the break itself where none was.
 #[derive(Clone, Copy)]
 pub(crate) struct Met {
-    found: Found,
-    rescue: Option<Reached>,
+    pub(crate) found: Found,
+    pub(crate) rescue: Option<Reached>,
+    pub(crate) loose: usize,
+}
+
+impl Met {
+    /// Returns whether the line from break `s` is too loose. Often the states of one break follow
+    /// one another, so that the answer is known.
+    fn is_too_loose(&self, lines: &Lines, end: &End, s: usize) -> bool
+        requires prepared { IsPrepared lines.now }
+        requires end { IsEnd lines.now end.now }
+        requires before { s < end.now.at }
+        requires known { IsKnown (pass_of lines.now) self.now.loose end.now.at }
+        ensures { result ≡ true → IsTooLoose (pass_of lines.now) s end.now.at }
+    {
+        s == self.loose || lines.is_too_loose(end, s)
+    }
+
+    /// Weighs the line from the state with the index `i`, and returns whether this stays open.
+    fn weigh(&mut self, lines: &Lines, end: &End, i: usize, x: &Reached) -> bool
+        requires prepared { IsPrepared lines.now }
+        requires end { IsEnd lines.now end.now }
+        requires before { x.now.at < end.now.at }
+        requires bounded { IsWithin (2 ^ 60) x.now.sum }
+        requires known { IsKnown (pass_of lines.now) self.old.loose end.now.at }
+        ensures found { self.new.found
+            ≡ found_with (pass_of lines.now) end.now.at self.old.found i x.now }
+        ensures stays { result ≡ not (closes (pass_of lines.now) x.now.at end.now.at) }
+        ensures rescue { result ≡ false
+            → self.new.rescue ≡ Some (rescue_from (pass_of lines.now) end.now.at i x.now) }
+        ensures known { IsKnown (pass_of lines.now) self.new.loose end.now.at }
+    {
+        if self.is_too_loose(lines, end, x.at) {
+            self.loose = x.at;
+            true
+        } else {
+            self.take(lines, end, i, x, lines.weigh(end, x.at))
+        }
+    }
+
+    /// Keeps what a line that fits like this leads to, and returns whether its start stays open.
+    fn take(&mut self, lines: &Lines, end: &End, i: usize, x: &Reached, line: Weight) -> bool
+        requires end { IsEnd lines.now end.now }
+        requires bounded { IsWithin (2 ^ 60) x.now.sum }
+        requires line { line ≡ weight (pass_of lines.now) x.now.at end.now.at }
+        ensures found { self.new.found
+            ≡ found_with (pass_of lines.now) end.now.at self.old.found i x.now }
+        ensures stays { result ≡ not (closes (pass_of lines.now) x.now.at end.now.at) }
+        ensures rescue { result ≡ false
+            → self.new.rescue ≡ Some (rescue_from (pass_of lines.now) end.now.at i x.now) }
+        ensures loose { self.new.loose ≡ self.old.loose }
+    {
+        find_from(lines, end, &mut self.found, i, x, line);
+        let stays = stays_open(line, end.is_forced());
+        if !stays {
+            self.rescue = Some(rescue(end.at, line, x, i));
+        }
+        stays
+    }
+}
+
+/// Returns what a line leads to that is taken at no cost.
+fn rescue(b: usize, line: Weight, x: &Reached, i: usize) -> Reached
+    ensures { result ≡ taken b line x.now i }
+{
+    Reached {
+        at: b,
+        class: line.class,
+        sum: x.sum,
+        from: i,
+    }
 }
 
 /// Weighs the line from each open state to `b`, and keeps those states open that it doesn't close.
@@ -230,36 +341,30 @@ fn weigh_open<L: Ledger>(
     ensures found { result.found ≡ found_by (pass_of lines.now) b states.now active.old.items }
     ensures active { active.new.items
         ≡ left_open (pass_of lines.now) b states.now active.old.items }
-    ensures rescue { result.rescue
+    ensures rescue { is_empty active.new.items ≡ true → result.rescue
         ≡ last_rescue (pass_of lines.now) b states.now active.old.items }
     ensures steps { steps.new ≡ steps.old + length active.old.items }
 {
-    let mut rescue = None;
-    let mut found = Found {
-        very_loose: None,
-        loose: None,
-        decent: None,
-        tight: None,
+    let mut met = Met {
+        found: Found {
+            very_loose: None,
+            loose: None,
+            decent: None,
+            tight: None,
+        },
+        rescue: None,
+        loose: b,
     };
     let mut left = 0;
-    let forced = lines.is_forced(b);
-    let before_end = lines.before_end(b);
+    let end = lines.end(b);
     for k in 0..active.len() {
         let i = active[k];
-        let x = &states[i];
         steps.tick();
-        let line = lines.weigh(&before_end, x.at, b);
-        find_from(lines, b, &mut found, i, x, line);
-        rescue = Some(Reached {
-            at: b,
-            class: line.class,
-            sum: x.sum,
-            from: i,
-        });
-        left = keep_open(active, left, i, stays_open(line, forced));
+        let stays = met.weigh(lines, &end, i, &states[i]);
+        left = keep_open(active, left, i, stays);
     }
     active.truncate(left);
-    Met { found, rescue }
+    met
 }
 
 /// Meets the break `b`: weighs the lines to it, and appends the states that are new, to which `new`

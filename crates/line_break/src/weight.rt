@@ -1,8 +1,9 @@
 //! How a line fits.
 
-ghost use Rattle.std.specs.Prelude.{◌≡◌, ◌≤◌, ◌^◌, ℤ, pos, ◌≤ℤ◌};
-ghost use Rattle.ts_geometry.specs.Numbers.{IsWithin};
+ghost use Rattle.std.specs.Prelude.{◌≡◌, ◌≤◌, ◌^◌, ◌*ℤ◌, ℤ, pos, ◌≤ℤ◌, int_le, int_lt};
+ghost use Rattle.ts_geometry.specs.Numbers.{IsWithin, badness_of_ratio};
 ghost use Rattle.line_break.specs.Lines.{stretched, shrunk, stretches_without_end, weight_short, weight_long, weight_at};
+ghost use Rattle.line_break.specs.Loose.{is_past, IsLimit};
 ghost use Rattle.line_break.specs.Running.{AreNear};
 
 use crate::totals::{Totals, difference};
@@ -36,6 +37,36 @@ pub(crate) fn weight_at(hsize: Sp, totals: &Totals) -> Weight
     } else {
         weight_long(difference(totals.width, hsize), totals.shrink)
     }
+}
+
+/// Returns whether a line of these totals is short by at least so many 297ths of its stretch, which
+/// is finite.
+pub(crate) fn is_past(hsize: Sp, totals: &Totals, limit: u16) -> bool
+    requires hsize { IsWithin (2 ^ 32) hsize.0 }
+    requires near { AreNear (2 ^ 58) totals.now }
+    ensures { result ≡ is_past hsize.0 totals.now limit }
+{
+    totals.width.0 < hsize.0
+        && !stretches_without_end(totals)
+        && is_ratio(difference(hsize, totals.width), totals.stretch, limit)
+}
+
+/// Returns whether a shortfall is at least so many 297ths of a stretch.
+fn is_ratio(short: Sp, stretch: Sp, limit: u16) -> bool
+    requires short { IsWithin (2 ^ 60) short.0 }
+    requires stretch { IsWithin (2 ^ 60) stretch.0 }
+    ensures { result ≡ int_le (pos limit *ℤ stretch.0) (pos 297 *ℤ short.0) }
+{
+    times(limit, stretch.0) <= times(297, short.0)
+}
+
+/// Returns a multiple of a length. It is 128 bits wide, since a length is up to 2^60.
+fn times(n: u16, length: i64) -> i128
+    requires { IsWithin (2 ^ 60) length }
+    ensures value { result ≡ pos n *ℤ length }
+    ensures bound { IsWithin (2 ^ 120) result }
+{
+    i128::from(n) * i128::from(length)
 }
 
 fn weight_short(short: Sp, totals: &Totals) -> Weight
@@ -102,4 +133,28 @@ fn shrunk(badness: u16) -> Weight
         badness,
         class,
     }
+}
+
+/// Returns the least ratio of shortfall to stretch, in units of 1/297, whose badness is above this
+/// threshold, or that of badness 10000.
+pub(crate) fn limit_above(threshold: i32) -> u16
+    ensures { IsLimit threshold result }
+{
+    let mut low = 0;
+    let mut high = 1291;
+    while low < high {
+        let middle = low + (high - low) / 2;
+        if is_above(middle, threshold) {
+            high = middle;
+        } else {
+            low = middle + 1;
+        }
+    }
+    low
+}
+
+fn is_above(ratio: u16, threshold: i32) -> bool
+    ensures { result ≡ int_lt threshold (pos (badness_of_ratio ratio)) }
+{
+    threshold < badness(i64::from(ratio), 297) as i32
 }

@@ -11,11 +11,11 @@ returns-then-is_fit c =
     let threshold_fits : SFits w32 c.args.lines.now.threshold = search rules in
     let fit = simp to_z-of_z at c.is_fit.ensures in
     let made = simp to_z-of_z at c.reach.ensures in
-    let new = reach_is p c.args.b c.args.i c.args.x.now c.reach.result c.args.line c.demerits_after-demerits.result c.requires.line c.demerits_after-demerits.ensures.value made in
-    found_in p c.args.b c.args.i c.args.found.now _ c.args.x.now c.reach.result c.args.line c.requires.line (sym fit ∙ c.if-is_fit.true) new c.offer.ensures
+    let new = reach_is p c.args.end.now.at c.args.i c.args.x.now c.reach.result c.args.line c.demerits_after-demerits.result c.requires.line c.demerits_after-demerits.ensures.value made in
+    found_in p c.args.end.now.at c.args.i c.args.found.now _ c.args.x.now c.reach.result c.args.line c.requires.line (sym fit ∙ c.if-is_fit.true) new c.offer.ensures
 
 pub returns-else-is_fit : goal.returns-else-is_fit
 returns-else-is_fit c =
     let threshold_fits : SFits w32 c.args.lines.now.threshold = search rules in
     let fit = simp to_z-of_z at c.is_fit.ensures in
-    found_out (pass_of c.args.lines.now) c.args.b c.args.i c.args.found.now c.args.x.now c.args.line c.requires.line (sym fit ∙ c.if-is_fit.false)
+    found_out (pass_of c.args.lines.now) c.args.end.now.at c.args.i c.args.found.now c.args.x.now c.args.line c.requires.line (sym fit ∙ c.if-is_fit.false)
