@@ -287,15 +287,18 @@ impl Met {
             self.loose = x.at;
             true
         } else {
-            self.take(lines, end, i, x, lines.weigh(end, x.at))
+            self.take(lines, end, i, x)
         }
     }
 
-    /// Keeps what a line that fits like this leads to, and returns whether its start stays open.
-    fn take(&mut self, lines: &Lines, end: &End, i: usize, x: &Reached, line: Weight) -> bool
+    /// Keeps what the line from the state with the index `i` leads to, and returns whether this
+    /// stays open. It is kept out of the loop, which would save its many values each time.
+    #[inline(never)]
+    fn take(&mut self, lines: &Lines, end: &End, i: usize, x: &Reached) -> bool
+        requires prepared { IsPrepared lines.now }
         requires end { IsEnd lines.now end.now }
+        requires before { x.now.at < end.now.at }
         requires bounded { IsWithin (2 ^ 60) x.now.sum }
-        requires line { line ≡ weight (pass_of lines.now) x.now.at end.now.at }
         ensures found { self.new.found
             ≡ found_with (pass_of lines.now) end.now.at self.old.found i x.now }
         ensures stays { result ≡ not (closes (pass_of lines.now) x.now.at end.now.at) }
@@ -303,6 +306,7 @@ impl Met {
             → self.new.rescue ≡ Some (rescue_from (pass_of lines.now) end.now.at i x.now) }
         ensures loose { self.new.loose ≡ self.old.loose }
     {
+        let line = lines.weigh(end, x.at);
         find_from(lines, end, &mut self.found, i, x, line);
         let stays = stays_open(line, end.is_forced());
         if !stays {
@@ -325,6 +329,7 @@ fn rescue(b: usize, line: Weight, x: &Reached, i: usize) -> Reached
 }
 
 /// Weighs the line from each open state to `b`, and keeps those states open that it doesn't close.
+#[inline(never)]
 fn weigh_open<L: Ledger>(
     lines: &Lines,
     b: usize,
