@@ -31,7 +31,7 @@ use ts_geometry::Sp;
 /// Returns the places of the items at which the lines of a paragraph end, the last of them that of
 /// its last item, a penalty of -10000 (The TeXbook, chapter 14; TeX: The Program, sections 813 to
 /// 890). Of the first pass that reaches the end they are the breaks with the least sum of demerits.
-/// Each line that is weighed is a step.
+/// Each line from an open state to a break is a step.
 ///
 /// InfiniteShrink comes exactly where glue of the items, or the left or the right skip, has a
 /// shrink other than 0 of an order other than Normal; then no line is weighed.
