@@ -19,6 +19,9 @@ fits n h = grind (arith, common_steps)
 pub length_gap : (a p s o : List Item) → length (((a ++ p) ++ s) ++ o) ≡ length a + (length (p ++ s) + length o)
 length_gap a p s o = simp length-append (omega arith)
 
+-- what the count of a gap needs
+pub ruleset counts = (length-append, arith, common_steps)
+
 module _ (b : HBuilder) (k : JapaneseCharacter) (e : List Entry) (s : StandsFor b e) where
   abbrev penalty_before : List Item
   penalty_before = penalty_items (gap_penalty b.neighbour true k.kinsoku.pre)

@@ -17,12 +17,14 @@ use Rattle.tfm_load.specs.declared.programs.Step.{Step}
 use Rattle.tfm_load.specs.declared.programs.Step.TheVariants as steps
 use Rattle.jlist_builder.specs.declared.builder.HBuilder.{HBuilder}
 use Rattle.jlist_builder.specs.declared.character.Letter.{Letter}
+use Rattle.jlist_builder.specs.declared.character.Arrival.TheVariants as arrivals
 use Rattle.jlist_builder.specs.declared.character.Run.{Run}
 use Rattle.jlist_builder.specs.declared.character.Run.TheVariants as runs
 use Rattle.jlist_builder.specs.Entries.{EuropeanCharacter, Entry, European, AreWords, european}
 use Rattle.jlist_builder.specs.Pieces.{Word, Piece, Kanji, Glyph, Thing, CutHere, InhibitHere, IsLetterOf, letter_of, word_of, size_of, no_measures, joint, joint_by, ligature, before_letter, word_before, joined, run}
+use Rattle.jlist_builder.specs.declared.space.Space.{Space}
 use Rattle.jlist_builder.specs.Spaces.{space_items}
-use Rattle.jlist_builder.specs.Gaps.{gap_penalty, penalty_items, letter_space, letter_items, last_letter, metric_list, before, spaced, glyph, right_of}
+use Rattle.jlist_builder.specs.Gaps.{gap_penalty, penalty_items, letter_space, letter_items, last_letter, metric_list, before, spaced, glyph, right_of, arrival_by}
 use Rattle.jlist_builder.specs.Stands.{StandsFor, is_full}
 use Rattle.jlist_builder.proofs.Arrivals.{fits, length_gap}
 
@@ -183,6 +185,16 @@ module _ (b b' : HBuilder) (m : tfm.Metric) (z : ℕ) (l : Letter) (a : European
       → b' ≡ record b { held = Some c; neighbour = Some (right_of c); run = runs.European c; is_inhibited = false }
       → AreWords l.kinsoku → false ≡ is_full (European a ∷ e)
   joins_full c joins is words = sym (fits_false (length (metric_list (European a ∷ e))) (letter_holds c joins is words).few)
+
+-- ---- how a letter goes on
+
+pub joined_is : (o : Option Letter) (s : Space) (c : Letter) → arrivals.Joined c ≡ arrival_by o s → o ≡ Some c
+joined_is (Some d) s c is = cc
+joined_is None s c is = cc
+
+pub beside_is : (o : Option Letter) (s x : Space) → arrivals.Beside x ≡ arrival_by o s → (o ≡ None) × (x ≡ s)
+beside_is (Some d) s x is = cc
+beside_is None s x is = (refl, cc)
 
 -- ---- a character of the font
 

@@ -12,10 +12,12 @@ use Rattle.jlist_builder.specs.declared.character.Letter.{Letter}
 use Rattle.jlist_builder.specs.declared.character.Side.{Side}
 use Rattle.jlist_builder.specs.declared.character.Run.{Run}
 use Rattle.jlist_builder.specs.declared.character.Run.TheVariants as runs
+use Rattle.jlist_builder.specs.declared.character.Arrival.{Arrival}
+use Rattle.jlist_builder.specs.declared.character.Arrival.TheVariants as arrivals
 use Rattle.jlist_builder.specs.declared.space.Space.{Space}
 use Rattle.jlist_builder.specs.declared.space.Space.TheVariants as spaces
 use Rattle.jlist_builder.specs.Entries.{JapaneseCharacter, Entry}
-use Rattle.jlist_builder.specs.Pieces.{Word, Piece, Kanji, Glyph, Thing, CutHere, InhibitHere, class_in, run, joined}
+use Rattle.jlist_builder.specs.Pieces.{Word, Piece, Kanji, Glyph, Thing, CutHere, InhibitHere, class_in, run, joint, joined}
 use Rattle.jlist_builder.specs.Spaces.{scaled_space, scaled_kern, space_items}
 
 -- ---- neighbours and their penalty
@@ -145,3 +147,14 @@ last_letter (InhibitHere ∷ past) = last_letter past
 abbrev pub letter_items : Option Letter → List Item
 letter_items None = []
 letter_items (Some a) = glyph a
+
+-- ---- words of the code
+
+abbrev pub arrival_by : Option Letter → Space → Arrival
+arrival_by (Some c) space = arrivals.Joined c
+arrival_by None space = arrivals.Beside space
+
+-- how a letter goes on: as a ligature, or after a space
+abbrev pub arrival : tfm.Metric → ℕ → Run → Bool → Letter → Arrival
+arrival m z before inhibited a =
+    arrival_by (joint m z before a) (letter_space m z before inhibited a.code)

@@ -1,6 +1,6 @@
 //! The builder of a horizontal list.
 
-ghost use Rattle.std.specs.Prelude.{◌≡◌, ◌+◌, ◌*◌, ◌≤◌, ◌<◌, ◌^◌, List, [], ◌∷◌, ◌++◌, length, nat_lt, not, ◌&&◌, false, true, Some, OnOk, OnErr, IfOk};
+ghost use Rattle.std.specs.Prelude.{◌≡◌, ◌+◌, ◌*◌, ◌≤◌, ◌<◌, ◌^◌, List, [], ◌∷◌, ◌++◌, length, nat_lt, not, ◌&&◌, false, true, Some, None, OnOk, OnErr, IfOk};
 ghost use Rattle.tfm_load.specs.Metrics.{has_character};
 ghost use Rattle.node_links.specs.Lists.{most_items};
 ghost use Rattle.jlist_builder.specs.Entries.{EuropeanCharacter, Entry, Japanese as OfJapanese, European as OfEuropean, Other, Cut, Inhibit, IsOther, is_bare, japanese, european};
@@ -9,13 +9,12 @@ ghost use Rattle.jlist_builder.specs.Gaps.{right_of, metric_list, last_letter, l
 ghost use Rattle.jlist_builder.specs.Stands.{StandsFor, is_full, is_list_full, is_lacking, MatchTaken};
 ghost use Rattle.jlist_builder.specs.declared.character.Run.TheVariants as runs;
 
-use crate::character::{Kinsoku, Letter, Run, Side};
+use crate::character::{Arrival, Kinsoku, Letter, Run, Side};
 use crate::gaps::{
-    gap_count, joined_letter, neighbour_over, penalty_between, side_of, space_before_kanji,
-    space_before_letter,
+    arrival, gap_count, neighbour_over, penalty_between, side_of, space_before_kanji,
 };
 use crate::puts::{glyph, is_too_many, put, put_gap, put_held};
-use crate::space::scaled_space;
+use crate::space::Unscaled;
 use box_tree::{FontNo, Item};
 use jfm_load::Japanese;
 use jis_codes::Cell;
@@ -54,6 +53,7 @@ impl HBuilder {
     }
 
     // Makes room for items after the letter that is held back, four together at most.
+    #[inline(always)]
     fn make_room(&mut self, more: usize) -> Result<(), ListFault>
         requires { more ≤ 3 }
         ensures full { is_list_full result ≡ nat_lt most_items
@@ -65,14 +65,25 @@ impl HBuilder {
         ensures run { self.new.run ≡ self.old.run }
         ensures inhibited { self.new.is_inhibited ≡ self.old.is_inhibited }
     {
-        if is_too_many(&self.list, self.held, more) {
+        if is_too_many(&self.list, &self.held, more) {
             return Err(ListFault::ListFull);
         }
         self.list.reserve(4)?;
         Ok(())
     }
 
+    // Holds no letter back.
+    #[inline(always)]
+    fn let_go(&mut self)
+        ensures { self.new ≡ record self.old { held = None } }
+    {
+        if self.held.is_some() {
+            self.held = None;
+        }
+    }
+
     // Remembers what stands directly before in the run, where no inhibit follows it yet.
+    #[inline(always)]
     fn go_on_after(&mut self, run: Run)
         ensures { self.new ≡ record self.old { run = run; is_inhibited = false } }
     {
@@ -106,10 +117,11 @@ impl HBuilder {
     {
         let class = font.class(cell);
         let penalty = penalty_between(self.neighbour, true, kinsoku.pre);
-        let space = space_before_kanji(font, z, self.run, self.is_inhibited, class);
-        self.make_room(gap_count(penalty, space) + 1)?;
-        put_held(&mut self.list, self.held, steps);
-        put_gap(&mut self.list, penalty, space, steps);
+        let after = font.between(class, 0);
+        let space = space_before_kanji(font, z, &self.run, self.is_inhibited, class, after);
+        self.make_room(gap_count(penalty, &space) + 1)?;
+        put_held(&mut self.list, &self.held, steps);
+        put_gap(&mut self.list, penalty, &space, steps);
         let size = font.measures(class, z);
         let kanji = Item::Kanji {
             font: number,
@@ -118,17 +130,17 @@ impl HBuilder {
             kind,
         };
         put(&mut self.list, kanji, steps);
-        self.held = None;
+        self.let_go();
         self.neighbour = Some(Side {
             is_japanese: true,
             post: kinsoku.post,
         });
-        let after = scaled_space(font.between(class, 0), z);
-        self.go_on_after(Run::Japanese(class, after));
+        self.go_on_after(Run::Japanese(class, Unscaled::new(after, z)));
         Ok(())
     }
 
     // Holds a letter back.
+    #[inline(always)]
     fn hold(&mut self, letter: Letter)
         ensures { self.new ≡ record self.old {
           held = Some letter;
@@ -144,6 +156,7 @@ impl HBuilder {
 
     // Adds a letter of the font.
     #[tactic(auto, using(crate::proofs::Joining::letters))]
+    #[inline(always)]
     fn letter<L: Ledger>(
         &mut self,
         font: &Roman,
@@ -162,15 +175,17 @@ impl HBuilder {
             ((e : List Entry) → StandsFor self.old e → StandsFor self.new e) }
         ensures counted { steps.new ≤ steps.old + 8 }
     {
-        if let Some(joint) = joined_letter(font, z, self.run, letter) {
-            self.hold(joint);
-            return Ok(());
-        }
+        let space = match arrival(font, z, &self.run, self.is_inhibited, letter) {
+            Arrival::Joined(joint) => {
+                self.hold(joint);
+                return Ok(());
+            }
+            Arrival::Beside(space) => space,
+        };
         let penalty = penalty_between(self.neighbour, false, letter.kinsoku.pre);
-        let space = space_before_letter(font, z, self.run, self.is_inhibited, letter.code);
-        self.make_room(gap_count(penalty, space) + 1)?;
-        put_held(&mut self.list, self.held, steps);
-        put_gap(&mut self.list, penalty, space, steps);
+        self.make_room(gap_count(penalty, &space) + 1)?;
+        put_held(&mut self.list, &self.held, steps);
+        put_gap(&mut self.list, penalty, &space, steps);
         self.hold(letter);
         Ok(())
     }
@@ -250,10 +265,10 @@ impl HBuilder {
         ensures counted { steps.new ≤ steps.old + 8 }
     {
         self.make_room(1)?;
-        put_held(&mut self.list, self.held, steps);
+        put_held(&mut self.list, &self.held, steps);
         self.neighbour = neighbour_over(&item, self.neighbour);
         put(&mut self.list, item, steps);
-        self.held = None;
+        self.let_go();
         self.go_on_after(Run::Start);
         Ok(())
     }
@@ -287,7 +302,7 @@ impl HBuilder {
         ensures room { IfOk result (λ list. 2 * length list.items ≤ list.spare) }
         ensures counted { steps.new ≤ steps.old + 8 }
     {
-        if let Some(letter) = self.held {
+        if let Some(letter) = &self.held {
             // the builder counted it when it came, so the list isn't full
             self.list.append(glyph(letter), steps).or(Err(NoMemory))?;
         }

@@ -1,6 +1,6 @@
 //! Characters, and what the next one looks at.
 
-use crate::space::Space;
+use crate::space::Unscaled;
 use box_tree::FontNo;
 use ts_geometry::{Measures, Sp};
 
@@ -32,9 +32,17 @@ pub struct Side {
 
 /// What stands directly before in the run: a Japanese character has its class, and the space that
 /// its font has before a character of another.
-#[derive(Clone, Copy, Debug, PartialEq, Eq)]
+#[derive(Debug, Drop)]
 pub enum Run {
     Start,
-    Japanese(u8, Space),
+    Japanese(u8, Unscaled),
     European(Letter),
+}
+
+/// How a letter goes on after what stands before it in the run: as a ligature with it, or beside it
+/// after a space.
+#[derive(Debug, Drop)]
+pub enum Arrival {
+    Joined(Letter),
+    Beside(Unscaled),
 }

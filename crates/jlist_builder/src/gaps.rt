@@ -1,18 +1,20 @@
 //! What stands directly before a character.
 
 ghost use Rattle.std.specs.Prelude.{◌≡◌, ◌+◌, ◌≤◌, ◌<◌, ◌^◌, ◌++◌, length};
-ghost use Rattle.jlist_builder.specs.Gaps.{right_of, over, gap_penalty, penalty_items, kanji_space, letter_space, letter_items};
-ghost use Rattle.jlist_builder.specs.Pieces.{joint, ligature, size_of};
+ghost use Rattle.jfm_load.specs.Metrics.{between_of};
+ghost use Rattle.jlist_builder.specs.Gaps.{right_of, over, gap_penalty, penalty_items, class_before, kanji_space, letter_items, arrival};
+ghost use Rattle.jlist_builder.specs.Pieces.{ligature, size_of};
 ghost use Rattle.jlist_builder.specs.Spaces.{space_items};
 
-use crate::character::{Kinsoku, Letter, Run, Side};
-use crate::space::{Space, scaled_kern, scaled_space};
+use crate::character::{Arrival, Kinsoku, Letter, Run, Side};
+use crate::space::Unscaled;
 use box_tree::Item;
-use jfm_load::Japanese;
+use jfm_load::{Japanese, Space as Words};
 use tfm_load::{Roman, Step};
 use ts_geometry::{Measures, Sp};
 
 /// Returns the penalty of a gap, in which the neighbour on the left stands before a character.
+#[inline(always)]
 pub(crate) fn penalty_between(left: Option<Side>, is_japanese: bool, pre: i32) -> Option<i64>
     ensures { result ≡ gap_penalty left is_japanese pre }
 {
@@ -24,47 +26,54 @@ pub(crate) fn penalty_between(left: Option<Side>, is_japanese: bool, pre: i32) -
     if sum == 0 { None } else { Some(sum) }
 }
 
-/// Returns the metric space before a Japanese character of a class.
+// The class of a Japanese character before in the run, and 0 where none is.
+#[inline(always)]
+fn class_before(run: &Run) -> u8
+    ensures { result ≡ class_before run.now }
+{
+    match run {
+        Run::Japanese(left, _) => *left,
+        Run::Start => 0,
+        Run::European(_) => 0,
+    }
+}
+
+// What a font has between two classes, where that between the second one and class 0 is known.
+#[inline(always)]
+fn words_between(font: &Japanese, left: u8, class: u8, after: Words) -> Words
+    requires { after ≡ between_of font.now class 0 }
+    ensures { result ≡ between_of font.now left class }
+{
+    if left == 0 && class == 0 {
+        after
+    } else {
+        font.between(left, class)
+    }
+}
+
+/// Returns the metric space before a Japanese character of a class, where that between this class
+/// and class 0 is known.
+#[inline(always)]
 pub(crate) fn space_before_kanji(
     font: &Japanese,
     z: u32,
-    run: Run,
+    run: &Run,
     is_inhibited: bool,
     class: u8,
-) -> Space
-    requires { z < 2 ^ 23 }
-    ensures { result ≡ kanji_space font.now z run is_inhibited class }
+    after: Words,
+) -> Unscaled
+    requires size { z < 2 ^ 23 }
+    requires after { after ≡ between_of font.now class 0 }
+    ensures { result ≡ kanji_space font.now z run.now is_inhibited class }
 {
     if is_inhibited {
-        return Space::Nothing;
+        return Unscaled::new(Words::Nothing, z);
     }
-    let left = match run {
-        Run::Japanese(left, _) => left,
-        Run::Start => 0,
-        Run::European(_) => 0,
-    };
-    scaled_space(font.between(left, class), z)
-}
-
-/// Returns the metric space or kern before a European character.
-pub(crate) fn space_before_letter(
-    font: &Roman,
-    z: u32,
-    run: Run,
-    is_inhibited: bool,
-    code: u8,
-) -> Space
-    requires { z < 2 ^ 23 }
-    ensures { result ≡ letter_space font.now z run is_inhibited code }
-{
-    match run {
-        Run::Start => Space::Nothing,
-        Run::Japanese(_, after) => { if is_inhibited { Space::Nothing } else { after } }
-        Run::European(left) => scaled_kern(font.pair(left.code, code), z),
-    }
+    Unscaled::new(words_between(font, class_before(run), class, after), z)
 }
 
 // The measures of a character, and 0 where the font lacks it.
+#[inline(always)]
 fn size_of(font: &Roman, code: u8, z: u32) -> Measures
     requires { z < 2 ^ 23 }
     ensures { result ≡ size_of font.now code z }
@@ -80,6 +89,7 @@ fn size_of(font: &Roman, code: u8, z: u32) -> Measures
 }
 
 // The ligature of two letters.
+#[inline(always)]
 fn ligature(left: Letter, code: u8, size: Measures, right: Letter) -> Letter
     ensures { result ≡ ligature left code size right }
 {
@@ -97,22 +107,39 @@ fn ligature(left: Letter, code: u8, size: Measures, right: Letter) -> Letter
     }
 }
 
-/// Returns the ligature that a letter makes with what stands before it in the run.
-pub(crate) fn joined_letter(font: &Roman, z: u32, run: Run, letter: Letter) -> Option<Letter>
+/// Returns how a letter goes on after what stands before it in the run.
+#[inline(always)]
+pub(crate) fn arrival(
+    font: &Roman,
+    z: u32,
+    run: &Run,
+    is_inhibited: bool,
+    letter: Letter,
+) -> Arrival
     requires { z < 2 ^ 23 }
-    ensures { result ≡ joint font.now z run letter }
+    ensures { result ≡ arrival font.now z run.now is_inhibited letter }
 {
-    let Run::European(left) = run else {
-        return None
-    };
-    match font.pair(left.code, letter.code) {
-        Step::Ligature(code) => Some(ligature(left, code, size_of(font, code, z), letter)),
-        Step::Nothing => None,
-        Step::Kern(_) => None,
+    match run {
+        Run::Start => Arrival::Beside(Unscaled::new(Words::Nothing, z)),
+        Run::Japanese(_, after) => {
+            if is_inhibited {
+                Arrival::Beside(Unscaled::new(Words::Nothing, z))
+            } else {
+                Arrival::Beside(after.same_copy())
+            }
+        }
+        Run::European(left) => match font.pair(left.code, letter.code) {
+            Step::Ligature(code) => {
+                Arrival::Joined(ligature(*left, code, size_of(font, code, z), letter))
+            }
+            Step::Nothing => Arrival::Beside(Unscaled::new(Words::Nothing, z)),
+            Step::Kern(width) => Arrival::Beside(Unscaled::new(Words::Kern(width), z)),
+        },
     }
 }
 
 /// Returns what a letter is to the next character.
+#[inline(always)]
 pub(crate) fn side_of(letter: &Letter) -> Side
     ensures { result ≡ right_of letter.now }
 {
@@ -123,6 +150,7 @@ pub(crate) fn side_of(letter: &Letter) -> Side
 }
 
 /// Returns the neighbour on the left, seen over an item.
+#[inline(always)]
 pub(crate) fn neighbour_over(item: &Item, left: Option<Side>) -> Option<Side>
     ensures { result ≡ over item.now left }
 {
@@ -133,8 +161,9 @@ pub(crate) fn neighbour_over(item: &Item, left: Option<Side>) -> Option<Side>
 }
 
 /// Returns how many items a letter that is held back makes.
-pub(crate) fn held_count(held: Option<Letter>) -> usize
-    ensures count { result ≡ length (letter_items held) }
+#[inline(always)]
+pub(crate) fn held_count(held: &Option<Letter>) -> usize
+    ensures count { result ≡ length (letter_items held.now) }
     ensures few { result ≤ 1 }
 {
     match held {
@@ -143,18 +172,24 @@ pub(crate) fn held_count(held: Option<Letter>) -> usize
     }
 }
 
-/// Returns how many items a gap makes.
-pub(crate) fn gap_count(penalty: Option<i64>, space: Space) -> usize
-    ensures count { result ≡ length (penalty_items penalty ++ space_items space) }
-    ensures few { result ≤ 2 }
+// How many items the penalty of a gap makes.
+#[inline(always)]
+fn penalty_count(penalty: Option<i64>) -> usize
+    ensures count { result ≡ length (penalty_items penalty) }
+    ensures few { result ≤ 1 }
 {
-    let before = match penalty {
+    match penalty {
         Some(_) => 1,
         None => 0,
-    };
-    match space {
-        Space::Nothing => before,
-        Space::Glue(_) => before + 1,
-        Space::Kern(_) => before + 1,
     }
+}
+
+/// Returns how many items a gap makes.
+#[inline(always)]
+#[tactic(auto, using(crate::proofs::Arrivals::counts))]
+pub(crate) fn gap_count(penalty: Option<i64>, space: &Unscaled) -> usize
+    ensures count { result ≡ length (penalty_items penalty ++ space_items space.now) }
+    ensures few { result ≤ 2 }
+{
+    penalty_count(penalty) + space.count()
 }

@@ -7,7 +7,7 @@ ghost use Rattle.jlist_builder.specs.Spaces.{space_items};
 
 use crate::character::Letter;
 use crate::gaps::held_count;
-use crate::space::Space;
+use crate::space::{Space, Unscaled};
 use box_tree::{GlueFrom, Item, KernFrom};
 use node_links::NodeList;
 use std::sync::ledger::Ledger;
@@ -17,6 +17,7 @@ use ts_base::Steps;
 const MOST_ITEMS: usize = 200_000;
 
 /// Puts an item.
+#[inline(always)]
 pub(crate) fn put<L: Ledger>(list: &mut NodeList, item: Item, steps: &mut Steps<L>)
     requires few { length list.old.items < most_items }
     requires room { 1 ≤ list.old.spare }
@@ -32,11 +33,12 @@ pub(crate) fn put<L: Ledger>(list: &mut NodeList, item: Item, steps: &mut Steps<
 }
 
 /// Puts a letter that was held back.
-pub(crate) fn put_held<L: Ledger>(list: &mut NodeList, held: Option<Letter>, steps: &mut Steps<L>)
+#[inline(always)]
+pub(crate) fn put_held<L: Ledger>(list: &mut NodeList, held: &Option<Letter>, steps: &mut Steps<L>)
     requires few { length list.old.items < most_items }
     requires room { 1 ≤ list.old.spare }
-    ensures items { list.new.items ≡ list.old.items ++ letter_items held }
-    ensures len { length list.new.items ≡ length list.old.items + length (letter_items held) }
+    ensures items { list.new.items ≡ list.old.items ++ letter_items held.now }
+    ensures len { length list.new.items ≡ length list.old.items + length (letter_items held.now) }
     ensures room { list.old.spare ≤ list.new.spare + 1 }
     ensures counted { steps.new ≤ steps.old + 1 }
 {
@@ -46,6 +48,7 @@ pub(crate) fn put_held<L: Ledger>(list: &mut NodeList, held: Option<Letter>, ste
 }
 
 // Puts the penalty of a gap.
+#[inline(always)]
 fn put_penalty<L: Ledger>(list: &mut NodeList, penalty: Option<i64>, steps: &mut Steps<L>)
     requires few { length list.old.items < most_items }
     requires room { 1 ≤ list.old.spare }
@@ -60,15 +63,16 @@ fn put_penalty<L: Ledger>(list: &mut NodeList, penalty: Option<i64>, steps: &mut
 }
 
 // Puts the metric space of a gap.
-fn put_space<L: Ledger>(list: &mut NodeList, space: Space, steps: &mut Steps<L>)
+#[inline(always)]
+fn put_space<L: Ledger>(list: &mut NodeList, space: &Unscaled, steps: &mut Steps<L>)
     requires few { length list.old.items < most_items }
     requires room { 1 ≤ list.old.spare }
-    ensures items { list.new.items ≡ list.old.items ++ space_items space }
-    ensures len { length list.new.items ≡ length list.old.items + length (space_items space) }
+    ensures items { list.new.items ≡ list.old.items ++ space_items space.now }
+    ensures len { length list.new.items ≡ length list.old.items + length (space_items space.now) }
     ensures room { list.old.spare ≤ list.new.spare + 1 }
     ensures counted { steps.new ≤ steps.old + 1 }
 {
-    match space {
+    match space.scaled() {
         Space::Nothing => {}
         Space::Glue(glue) => {
             let from = GlueFrom::Metric;
@@ -82,19 +86,20 @@ fn put_space<L: Ledger>(list: &mut NodeList, space: Space, steps: &mut Steps<L>)
 }
 
 /// Puts what stands directly before a character: the penalty and then the space.
+#[inline(always)]
 pub(crate) fn put_gap<L: Ledger>(
     list: &mut NodeList,
     penalty: Option<i64>,
-    space: Space,
+    space: &Unscaled,
     steps: &mut Steps<L>,
 )
     requires few { length list.old.items
-        + length (penalty_items penalty ++ space_items space) < most_items }
+        + length (penalty_items penalty ++ space_items space.now) < most_items }
     requires room { 2 ≤ list.old.spare }
     ensures items { list.new.items
-        ≡ (list.old.items ++ penalty_items penalty) ++ space_items space }
+        ≡ (list.old.items ++ penalty_items penalty) ++ space_items space.now }
     ensures len { length list.new.items
-        ≡ length list.old.items + length (penalty_items penalty ++ space_items space) }
+        ≡ length list.old.items + length (penalty_items penalty ++ space_items space.now) }
     ensures room { list.old.spare ≤ list.new.spare + 2 }
     ensures counted { steps.new ≤ steps.old + 2 }
 {
@@ -103,8 +108,9 @@ pub(crate) fn put_gap<L: Ledger>(
 }
 
 /// Returns a letter as an item.
-pub(crate) fn glyph(letter: Letter) -> Item
-    ensures { result ∷ [] ≡ glyph letter }
+#[inline(always)]
+pub(crate) fn glyph(letter: &Letter) -> Item
+    ensures { result ∷ [] ≡ glyph letter.now }
 {
     Item::Glyph {
         font: letter.font,
@@ -117,9 +123,10 @@ pub(crate) fn glyph(letter: Letter) -> Item
 }
 
 /// Returns whether a list, with a letter that is held back and some items more, has too many.
-pub(crate) fn is_too_many(list: &NodeList, held: Option<Letter>, more: usize) -> bool
+#[inline(always)]
+pub(crate) fn is_too_many(list: &NodeList, held: &Option<Letter>, more: usize) -> bool
     requires { more ≤ 3 }
-    ensures { result ≡ nat_lt most_items (length (list.now.items ++ letter_items held) + more) }
+    ensures { result ≡ nat_lt most_items (length (list.now.items ++ letter_items held.now) + more) }
 {
     let len = list.len();
     len > MOST_ITEMS || len + held_count(held) + more > MOST_ITEMS

@@ -1,10 +1,10 @@
 //! What metrics put between characters.
 
-ghost use Rattle.std.specs.Prelude.{◌≡◌, ◌<◌, ◌^◌};
-ghost use Rattle.jlist_builder.specs.Spaces.{scaled_glue, scaled_kern, scaled_space};
+ghost use Rattle.std.specs.Prelude.{◌≡◌, ◌≤◌, ◌<◌, ◌^◌, length};
+ghost use Rattle.jlist_builder.specs.Spaces.{scaled_glue, scaled_space, space_items};
 
 use jfm_load::Space as Words;
-use tfm_load::Step;
+use std::marker::Model;
 use ts_geometry::{Glue, Order, Sp, scale};
 
 /// What a metric puts before a character, in scaled points.
@@ -16,6 +16,7 @@ pub enum Space {
 }
 
 // Glue of fix words at a size.
+#[inline(always)]
 fn scaled_glue(width: i32, stretch: i32, shrink: i32, z: u32) -> Glue
     requires { z < 2 ^ 23 }
     ensures { result ≡ scaled_glue width stretch shrink z }
@@ -29,7 +30,72 @@ fn scaled_glue(width: i32, stretch: i32, shrink: i32, z: u32) -> Glue
     }
 }
 
+/// What a Japanese metric has between two classes, which is scaled only where it is looked at.
+/// Contracts see the space at its size.
+#[derive(Debug, Drop)]
+pub struct Unscaled {
+    words: Words,
+    z: u32,
+}
+
+impl Model for Unscaled {
+    ghost use Rattle.jlist_builder.specs.declared.space.Space.{Space};
+
+    ghost Value = { Space };
+
+    ghost use Rattle.std.specs.Prelude.{◌<◌, ◌^◌};
+    ghost use Rattle.jlist_builder.specs.Spaces.{scaled_space};
+
+    ghost view = { λ s. scaled_space s.words s.z };
+
+    ghost invariant = { λ s. s.z < 2 ^ 23 };
+}
+
+impl Unscaled {
+    /// Keeps what a Japanese metric has between two classes, with a size in scaled points.
+    #[inline(always)]
+    pub(crate) fn new(words: Words, z: u32) -> Unscaled
+        requires { z < 2 ^ 23 }
+        ensures { result ≡ scaled_space words z }
+    {
+        Unscaled { words, z }
+    }
+
+    /// Returns the same space.
+    #[inline(always)]
+    pub(crate) fn same_copy(&self) -> Unscaled
+        ensures { result ≡ self.now }
+    {
+        Unscaled {
+            words: self.words,
+            z: self.z,
+        }
+    }
+
+    /// Returns how many items it makes.
+    #[inline(always)]
+    pub(crate) fn count(&self) -> usize
+        ensures count { result ≡ length (space_items self.now) }
+        ensures few { result ≤ 1 }
+    {
+        match self.words {
+            Words::Nothing => 0,
+            Words::Glue(_, _, _) => 1,
+            Words::Kern(_) => 1,
+        }
+    }
+
+    /// Returns the space at its size.
+    #[inline(always)]
+    pub(crate) fn scaled(&self) -> Space
+        ensures { result ≡ self.now }
+    {
+        scaled_space(self.words, self.z)
+    }
+}
+
 /// Returns what a Japanese metric has between two classes, at a size in scaled points.
+#[inline(always)]
 pub(crate) fn scaled_space(words: Words, z: u32) -> Space
     requires { z < 2 ^ 23 }
     ensures { result ≡ scaled_space words z }
@@ -38,17 +104,5 @@ pub(crate) fn scaled_space(words: Words, z: u32) -> Space
         Words::Nothing => Space::Nothing,
         Words::Glue(width, stretch, shrink) => Space::Glue(scaled_glue(width, stretch, shrink, z)),
         Words::Kern(width) => Space::Kern(Sp(scale(width, z))),
-    }
-}
-
-/// Returns the kern that a European metric has between two characters, at a size in scaled points.
-pub(crate) fn scaled_kern(step: Step, z: u32) -> Space
-    requires { z < 2 ^ 23 }
-    ensures { result ≡ scaled_kern step z }
-{
-    match step {
-        Step::Kern(width) => Space::Kern(Sp(scale(width, z))),
-        Step::Nothing => Space::Nothing,
-        Step::Ligature(_) => Space::Nothing,
     }
 }

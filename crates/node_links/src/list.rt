@@ -47,6 +47,7 @@ impl Model for NodeList {
 }
 
 // Makes a node the next one of another.
+#[inline(always)]
 fn set_next(nodes: &mut Vec<Node>, at: usize, next: NodeNo)
     requires { at < length nodes.old.items }
     ensures nodes { nodes.new.items ≡ next_set nodes.old.items at next }
@@ -57,6 +58,7 @@ fn set_next(nodes: &mut Vec<Node>, at: usize, next: NodeNo)
 }
 
 // Puts a node with this item after another, where there is room.
+#[inline(always)]
 fn link(nodes: &mut Vec<Node>, at: NodeNo, item: Item) -> NodeNo
     requires there { at.0 < length nodes.old.items }
     requires room { vec_len nodes.old < vec_capacity nodes.old }
@@ -72,6 +74,7 @@ fn link(nodes: &mut Vec<Node>, at: NodeNo, item: Item) -> NodeNo
 }
 
 // The last node, where a new one was put after a node.
+#[inline(always)]
 fn last_after(last: usize, at: NodeNo, new: NodeNo) -> usize
     ensures { result ≡ (if nat_eq at.0 last then new.0 else last) }
 {
@@ -79,6 +82,7 @@ fn last_after(last: usize, at: NodeNo, new: NodeNo) -> usize
 }
 
 // Gives a penalty another value.
+#[inline(always)]
 fn give_value(item: &mut Item, value: i64)
     ensures { item.new ≡ valued value item.old }
 {
@@ -88,6 +92,7 @@ fn give_value(item: &mut Item, value: i64)
 }
 
 // Gives the penalty of a node another value.
+#[inline(always)]
 fn set_value(nodes: &mut Vec<Node>, at: usize, value: i64)
     requires { at < length nodes.old.items }
     ensures nodes { nodes.new.items ≡ value_set value nodes.old.items at }
@@ -123,6 +128,7 @@ impl NodeList {
     }
 
     // Puts an item after a node.
+    #[inline(always)]
     fn put_after(&mut self, at: NodeNo, item: Item) -> NodeNo
         requires here { IsNode self.old at }
         requires room { 1 ≤ self.old.spare }
@@ -137,6 +143,7 @@ impl NodeList {
         number
     }
     // Puts an item first, where there is none.
+    #[inline(always)]
     fn put_first(&mut self, item: Item) -> NodeNo
         requires none { self.old.items ≡ [] }
         requires room { 1 ≤ self.old.spare }
@@ -150,6 +157,7 @@ impl NodeList {
     }
 
     /// Returns how many items are there. Takes no memory.
+    #[inline(always)]
     pub fn len(&self) -> usize
         ensures { result ≡ length self.now.items }
     {
@@ -157,6 +165,7 @@ impl NodeList {
     }
 
     // Whether 200,000 items are there.
+    #[inline(always)]
     fn is_full(&self) -> bool
         ensures { result ≡ nat_le 200000 (length self.now.items) }
     {
@@ -164,6 +173,7 @@ impl NodeList {
     }
 
     // The last node.
+    #[inline(always)]
     fn last_node(&self) -> Option<NodeNo>
         ensures none { IfNone result ((self.now.items ≡ []) × (self.now.numbers ≡ [])) }
         ensures some { IfSome result (λ number. 0 < length self.now.items) }
@@ -177,6 +187,7 @@ impl NodeList {
     }
 
     // Puts an item last.
+    #[inline(always)]
     fn put_last(&mut self, item: Item) -> NodeNo
         requires room { 1 ≤ self.old.spare }
         ensures items { self.new.items ≡ self.old.items ++ item ∷ [] }
@@ -192,6 +203,7 @@ impl NodeList {
     /// Appends an item, and returns the number of its node. `ListFull` comes exactly where 200,000
     /// items are there, and memory isn't wanted where one insertion can't fail. Refused, it leaves
     /// the list as it was. It takes one step.
+    #[inline(always)]
     pub fn append<L: Ledger>(
         &mut self,
         item: Item,
@@ -217,6 +229,7 @@ impl NodeList {
 
     /// Puts an item after a node, and returns the number of its node. It takes no memory, can't
     /// fail, and takes one step.
+    #[inline(always)]
     pub fn insert_after<L: Ledger>(
         &mut self,
         at: NodeNo,
@@ -237,6 +250,7 @@ impl NodeList {
     }
 
     /// Gives the penalty of a node another value.
+    #[inline(always)]
     pub fn set_penalty(&mut self, at: NodeNo, value: i64)
         requires { IsPenaltyAt self.old at }
         ensures items { (place : ℕ) → IsAt self.old place at
@@ -261,6 +275,7 @@ impl NodeList {
     }
 
     // The number of the node after another.
+    #[inline(always)]
     fn after(&self, at: NodeNo) -> Option<NodeNo>
         requires { IsNode self.now at }
         ensures { (place : ℕ) → IsAt self.now place at
@@ -271,6 +286,7 @@ impl NodeList {
 
     /// Returns the number of the node after another, or `None` exactly where it is the last. Takes
     /// no memory, and one step.
+    #[inline(always)]
     pub fn next<L: Ledger>(&self, at: NodeNo, steps: &mut Steps<L>) -> Option<NodeNo>
         requires { IsNode self.now at }
         ensures next { (place : ℕ) → IsAt self.now place at
@@ -282,6 +298,7 @@ impl NodeList {
     }
 
     /// Returns the item of a node. Takes no memory.
+    #[inline(always)]
     pub fn item(&self, at: NodeNo) -> &Item
         requires { IsNode self.now at }
         ensures { (place : ℕ) → IsAt self.now place at
