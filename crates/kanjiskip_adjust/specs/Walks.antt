@@ -10,10 +10,12 @@ use Rattle.box_tree.specs.declared.item.KernFrom.TheVariants as kerns
 use Rattle.box_tree.specs.declared.item.Item.{Item}
 use Rattle.box_tree.specs.declared.item.Item.TheVariants as items
 use Rattle.kanjiskip_adjust.specs.EndCodes.{Codes}
-use Rattle.kanjiskip_adjust.specs.Finished.{end_skip, skip_items, is_text}
+use Rattle.kanjiskip_adjust.specs.Finished.{end_skip, no_glue, skip_items, is_text}
 use Rattle.kanjiskip_adjust.specs.declared.look.End.TheVariants as ends
 use Rattle.kanjiskip_adjust.specs.declared.look.Look.{Look}
 use Rattle.kanjiskip_adjust.specs.declared.look.Look.TheVariants as looks
+use Rattle.kanjiskip_adjust.specs.declared.skip.Skip.{Skip}
+use Rattle.kanjiskip_adjust.specs.declared.skip.Skip.TheVariants as skips
 use Rattle.kanjiskip_adjust.specs.declared.walk.Walk.{Walk}
 
 -- ---- what items are
@@ -51,6 +53,12 @@ skip_before codes w looks.Skip = None
 skip_before codes w looks.Penalty = None
 skip_before codes w looks.Blank = None
 skip_before codes w looks.Solid = None
+
+-- the glue of a skip
+abbrev pub skip_glue : Codes → Option Skip → Option Glue
+skip_glue codes None = None
+skip_glue codes (Some skips.Japanese) = Some (if codes.auto then codes.kanjiskip else no_glue)
+skip_glue codes (Some skips.Mixed) = Some codes.xkanjiskip
 
 -- the walk after an item, of which `count` items stand up to it
 abbrev pub walk_after : Walk → Look → ℕ → Walk

@@ -35,6 +35,7 @@ pub enum Look {
     Solid,
 }
 
+#[inline(always)]
 fn is_text(kind: u8) -> bool
     ensures { result ≡ is_text kind }
 {
@@ -42,6 +43,7 @@ fn is_text(kind: u8) -> bool
 }
 
 /// Returns what an item is.
+#[inline(always)]
 pub(crate) fn look_of(item: &Item) -> Look
     ensures { result ≡ look_of item.now }
 {

@@ -19,6 +19,7 @@ pub struct Marks {
 
 impl Marks {
     /// Returns the marks at the front of a list, with this node for those that aren't there yet.
+    #[inline(always)]
     pub(crate) fn at(first: NodeNo) -> Marks
         ensures { result ≡ record { before = first; gap = first; widow = first } }
     {
@@ -30,6 +31,7 @@ impl Marks {
     }
 
     /// Goes past the node of an item.
+    #[inline(always)]
     pub(crate) fn go_past(&mut self, look: &Look, number: NodeNo)
         ensures { self.new ≡ marks_after self.old look.now number }
     {

@@ -2,7 +2,7 @@
 
 ghost use Rattle.std.specs.Prelude.{◌≡◌, Some};
 ghost use Rattle.kanjiskip_adjust.specs.Finished.{allows_before, allows_after, end_skip, no_glue, widow_of};
-ghost use Rattle.kanjiskip_adjust.specs.Walks.{skip_before};
+ghost use Rattle.kanjiskip_adjust.specs.Walks.{skip_before, skip_glue};
 ghost use Rattle.kanjiskip_adjust.specs.declared.look.End.TheVariants as ends;
 
 use crate::codes::EndCodes;
@@ -21,6 +21,7 @@ const NO_GLUE: Glue = Glue {
 };
 
 // Whether a space may stand before a letter that follows a Japanese character.
+#[inline(always)]
 fn allows_before<E: EndCodes>(codes: &E, code: u8, cell: Cell) -> bool
     ensures { result ≡ allows_before (E.codes codes.now) code cell }
 {
@@ -30,6 +31,7 @@ fn allows_before<E: EndCodes>(codes: &E, code: u8, cell: Cell) -> bool
 }
 
 // Whether one may stand after a letter that a Japanese character follows.
+#[inline(always)]
 fn allows_after<E: EndCodes>(codes: &E, code: u8, cell: Cell) -> bool
     ensures { result ≡ allows_after (E.codes codes.now) code cell }
 {
@@ -38,19 +40,42 @@ fn allows_after<E: EndCodes>(codes: &E, code: u8, cell: Cell) -> bool
     codes.autox() && (letter == 2 || letter == 3) && (kanji == 2 || kanji == 3)
 }
 
+/// Which skip goes into a gap: that between two Japanese characters, or that between one and a
+/// European one.
+#[derive(Clone, Copy, Debug)]
+pub enum Skip {
+    Japanese,
+    Mixed,
+}
+
+/// Returns a skip as it is at the list's end.
+#[inline(always)]
+pub(crate) fn glue_of<E: EndCodes>(codes: &E, skip: Skip) -> Glue
+    ensures { Some result ≡ skip_glue (E.codes codes.now) (Some skip) }
+{
+    match skip {
+        Skip::Japanese => {
+            if codes.auto() {
+                codes.kanjiskip()
+            } else {
+                NO_GLUE
+            }
+        }
+        Skip::Mixed => codes.xkanjiskip(),
+    }
+}
+
 // The skip between a Japanese character and another end.
-fn skip_after_kanji<E: EndCodes>(codes: &E, cell: Cell, right: &End) -> Option<Glue>
-    ensures { result ≡ end_skip (E.codes codes.now) (Some (ends.Japanese cell)) (Some right.now) }
+#[inline(always)]
+fn skip_after_kanji<E: EndCodes>(codes: &E, cell: Cell, right: &End) -> Option<Skip>
+    ensures { skip_glue (E.codes codes.now) result
+        ≡ end_skip (E.codes codes.now) (Some (ends.Japanese cell)) (Some right.now) }
 {
     match right {
-        End::Japanese(_) => Some(if codes.auto() {
-            codes.kanjiskip()
-        } else {
-            NO_GLUE
-        }),
+        End::Japanese(_) => Some(Skip::Japanese),
         End::European(code) => {
             if allows_before(codes, *code, cell) {
-                Some(codes.xkanjiskip())
+                Some(Skip::Mixed)
             } else {
                 None
             }
@@ -59,13 +84,15 @@ fn skip_after_kanji<E: EndCodes>(codes: &E, cell: Cell, right: &End) -> Option<G
 }
 
 // The skip between a European character and another end.
-fn skip_after_letter<E: EndCodes>(codes: &E, code: u8, right: &End) -> Option<Glue>
-    ensures { result ≡ end_skip (E.codes codes.now) (Some (ends.European code)) (Some right.now) }
+#[inline(always)]
+fn skip_after_letter<E: EndCodes>(codes: &E, code: u8, right: &End) -> Option<Skip>
+    ensures { skip_glue (E.codes codes.now) result
+        ≡ end_skip (E.codes codes.now) (Some (ends.European code)) (Some right.now) }
 {
     match right {
         End::Japanese(cell) => {
             if allows_after(codes, code, *cell) {
-                Some(codes.xkanjiskip())
+                Some(Skip::Mixed)
             } else {
                 None
             }
@@ -75,8 +102,10 @@ fn skip_after_letter<E: EndCodes>(codes: &E, code: u8, right: &End) -> Option<Gl
 }
 
 // The skip between two ends.
-fn skip_between<E: EndCodes>(codes: &E, left: &Option<End>, right: &End) -> Option<Glue>
-    ensures { result ≡ end_skip (E.codes codes.now) left.now (Some right.now) }
+#[inline(always)]
+fn skip_between<E: EndCodes>(codes: &E, left: &Option<End>, right: &End) -> Option<Skip>
+    ensures { skip_glue (E.codes codes.now) result
+        ≡ end_skip (E.codes codes.now) left.now (Some right.now) }
 {
     match left {
         Some(End::Japanese(cell)) => skip_after_kanji(codes, *cell, right),
@@ -86,8 +115,10 @@ fn skip_between<E: EndCodes>(codes: &E, left: &Option<End>, right: &End) -> Opti
 }
 
 /// Returns the skip that goes directly before an item.
-pub(crate) fn skip_at<E: EndCodes>(codes: &E, walk: &Walk, look: &Look) -> Option<Glue>
-    ensures { result ≡ skip_before (E.codes codes.now) walk.now look.now }
+#[inline(always)]
+pub(crate) fn skip_at<E: EndCodes>(codes: &E, walk: &Walk, look: &Look) -> Option<Skip>
+    ensures { skip_glue (E.codes codes.now) result
+        ≡ skip_before (E.codes codes.now) walk.now look.now }
 {
     if walk.is_spaced {
         return None;

@@ -11,7 +11,7 @@ ghost use Rattle.kanjiskip_adjust.specs.Nodes.{AreKept};
 use crate::codes::EndCodes;
 use crate::look::look_of;
 use crate::nodes::Marks;
-use crate::skip::{skip_at, widow_penalty};
+use crate::skip::{glue_of, skip_at, widow_penalty};
 use crate::walk::Walk;
 use box_tree::{GlueFrom, Item};
 use node_links::{NodeList, NodeNo};
@@ -19,6 +19,7 @@ use std::sync::ledger::Ledger;
 use ts_base::Steps;
 
 // Puts the skip of a node's item, goes past it, and returns how many items stand up to it.
+#[inline(always)]
 fn pass<E: EndCodes, L: Ledger>(
     list: &mut NodeList,
     codes: &E,
@@ -52,7 +53,8 @@ fn pass<E: EndCodes, L: Ledger>(
     let look = look_of(list.item(number));
     let len = list.len();
     match skip_at(codes, walk, &look) {
-        Some(glue) => {
+        Some(skip) => {
+            let glue = glue_of(codes, skip);
             let from = GlueFrom::Skip;
             let item = Item::Glue { glue, from };
             marks.before = list.insert_after(marks.before, item, steps);

@@ -22,6 +22,7 @@ pub struct Walk {
 
 impl Walk {
     /// Returns the walk at the front of a list.
+    #[inline(always)]
     pub(crate) fn start() -> Walk
         ensures { result ≡ start }
     {
@@ -35,6 +36,7 @@ impl Walk {
     }
 
     // The gap that has the widow penalty if this Japanese character is the last one.
+    #[inline(always)]
     fn widow_at(&self, is_text: bool) -> Option<usize>
         ensures { result ≡ (if is_text then (if self.now.is_after_japanese
             then Some self.now.gap else None) else self.now.widow) }
@@ -49,6 +51,7 @@ impl Walk {
     }
 
     // Begins a gap after an item, up to which so many stand.
+    #[inline(always)]
     fn begin_gap(&mut self, left: Option<End>, is_after_japanese: bool, count: usize)
         ensures { self.new ≡ record {
           left = left;
@@ -65,6 +68,7 @@ impl Walk {
     }
 
     /// Goes past an item, up to which so many stand.
+    #[inline(always)]
     pub(crate) fn go_past(&mut self, look: &Look, count: usize)
         ensures { self.new ≡ walk_after self.old look.now count }
     {
