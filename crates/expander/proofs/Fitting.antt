@@ -7,11 +7,11 @@ use Rattle.tok_lists.proofs.Growing.{held_still, all_held_still, grew_longer}
 use Rattle.env_groups.specs.declared.meaning.MacroDef.{MacroDef}
 use Rattle.env_groups.specs.declared.meaning.Meaning.{Meaning}
 use Rattle.env_groups.specs.declared.meaning.Meaning.TheVariants as meanings
-use Rattle.env_groups.specs.Environments.{Environment, Nest, start, meaning_at, meaning_set, toks_set, group_opened, group_closed}
+use Rattle.env_groups.specs.Environments.{Environment, Nest, start, meaning_at, meaning_set, toks_set, group_opened, group_closed, toks_at}
 use Rattle.env_groups.specs.StartMeanings.{primitive_or_none, start_prims}
 use Rattle.env_groups.specs.declared.prim.PrimitiveName.{PrimitiveName}
 use Rattle.env_groups.specs.Laws.{HaveValues}
-use Rattle.env_groups.proofs.Keeping.{meaning_has, start_has, meaning_keeps, toks_keeps, open_keeps, close_keeps}
+use Rattle.env_groups.proofs.Keeping.{meaning_has, start_has, meaning_keeps, toks_has, toks_keeps, open_keeps, close_keeps}
 use Rattle.env_groups.specs.declared.key.ToksKey.{ToksKey}
 use Rattle.env_groups.specs.declared.group.GroupKind.{GroupKind}
 use Rattle.tok_lists.specs.StartNames.{start_names}
@@ -20,7 +20,7 @@ use Rattle.tok_lists.specs.declared.token.Token.TheVariants as tokens
 use Rattle.macros.specs.Definitions.{IsDefined}
 use Rattle.expander.specs.declared.action.Front.TheVariants as fronts
 use Rattle.expander.specs.Actions.{front_as, front_of}
-use Rattle.expander.specs.Holding.{IsCallable, IsFit, HaveRelax, AreFit}
+use Rattle.expander.specs.Holding.{IsPlainList, IsCallable, IsFit, HaveRelax, AreFit}
 
 meaning_still : (old new : List Spelling) (m : Meaning) → Grew old new → IsFit old m → IsFit new m
 meaning_still old new meanings.Undefined grew fit = tt
@@ -42,12 +42,12 @@ if_some : {A : Type 0} (P Q : A → Type 0) (o : Option A) → ((a : A) → P a 
 if_some P Q (Some a) goes has = goes a has
 if_some P Q None goes has = tt
 
-values_still : (old new : List Spelling) (es : List Environment) → Grew old new → HaveValues (IsFit old) (AreHeld old) (λ _. Unit {0}) es → HaveValues (IsFit new) (AreHeld new) (λ _. Unit {0}) es
+values_still : (old new : List Spelling) (es : List Environment) → Grew old new → HaveValues (IsFit old) (IsPlainList old) (λ _. Unit {0}) es → HaveValues (IsFit new) (IsPlainList new) (λ _. Unit {0}) es
 values_still old new [] grew have = tt
 values_still old new (e ∷ es) grew have = (
   record {
     meanings = λ n. if_some (IsFit old) (IsFit new) _ (λ m fit. meaning_still old new m grew fit) (have.0.meanings n);
-    toks = λ n. if_some (AreHeld old) (AreHeld new) _ (λ list held. all_held_still old new list grew held) (have.0.toks n);
+    toks = λ n. if_some (IsPlainList old) (IsPlainList new) _ (λ list plain. (plain.0, all_held_still old new list grew plain.1)) (have.0.toks n);
     boxes = have.0.boxes;
   },
   values_still old new es grew have.1,
@@ -71,7 +71,7 @@ start_fit names None = tt
 -- What a name means is fit.
 pub meaning_fit : (names : List Spelling) (nest : Nest) (n : ℕ) → AreFit names nest → IsFit names (meaning_at nest n)
 unfolding AreFit
-meaning_fit names nest n fit = meaning_has (IsFit names) (AreHeld names) (λ _. Unit {0}) nest n fit.1 (start_fit names (slice_get start_prims n))
+meaning_fit names nest n fit = meaning_has (IsFit names) (IsPlainList names) (λ _. Unit {0}) nest n fit.1 (start_fit names (slice_get start_prims n))
 
 front_fit : (names : List Spelling) (m : Meaning) (d : MacroDef) → front_as m ≡ fronts.Call d → IsFit names m → IsCallable names d
 front_fit names meanings.Undefined d is fit = absurd cc
@@ -97,11 +97,11 @@ call_fit names nest (tokens.Param n) d is fit = absurd cc
 
 pub fit_at_start : AreFit start_names start
 unfolding AreFit
-fit_at_start = (lit≤ tt, start_has (IsFit start_names) (AreHeld start_names) (λ _. Unit {0}))
+fit_at_start = (lit≤ tt, start_has (IsFit start_names) (IsPlainList start_names) (λ _. Unit {0}))
 
 pub fit_after_meaning : (names : List Spelling) (nest : Nest) (name : ℕ) (value : Meaning) (is_global : Bool) → IsFit names value → AreFit names nest → AreFit names (meaning_set nest name value is_global)
 unfolding AreFit
-fit_after_meaning names nest name value is_global of fit = (fit.0, meaning_keeps (IsFit names) (AreHeld names) (λ _. Unit {0}) nest name value is_global of fit.1)
+fit_after_meaning names nest name value is_global of fit = (fit.0, meaning_keeps (IsFit names) (IsPlainList names) (λ _. Unit {0}) nest name value is_global of fit.1)
 
 macro_fit : (names : List Spelling) (d : MacroDef) → IsDefined names d → IsFit names (meanings.Macro d)
 macro_fit names d is = record { params = is.params; body = is.body; plain = is.braces }
@@ -110,14 +110,19 @@ macro_fit names d is = record { params = is.params; body = is.body; plain = is.b
 pub fit_after_macro : (names : List Spelling) (nest : Nest) (name : ℕ) (d : MacroDef) (is_global : Bool) → IsDefined names d → AreFit names nest → AreFit names (meaning_set nest name (meanings.Macro d) is_global)
 fit_after_macro names nest name d is_global is fit = fit_after_meaning names nest name (meanings.Macro d) is_global (macro_fit names d is) fit
 
-pub fit_after_toks : (names : List Spelling) (old new : Nest) (key : ToksKey) (value : List Token) (is_global : Bool) → toks_set old key value is_global ≡ Ok new → AreHeld names value → AreFit names old → AreFit names new
+pub fit_after_toks : (names : List Spelling) (old new : Nest) (key : ToksKey) (value : List Token) (is_global : Bool) → toks_set old key value is_global ≡ Ok new → IsPlainList names value → AreFit names old → AreFit names new
 unfolding AreFit
-fit_after_toks names old new key value is_global is of fit = (fit.0, toks_keeps (IsFit names) (AreHeld names) (λ _. Unit {0}) old new key value is_global is of fit.1)
+fit_after_toks names old new key value is_global is of fit = (fit.0, toks_keeps (IsFit names) (IsPlainList names) (λ _. Unit {0}) old new key value is_global is of fit.1)
 
 pub fit_after_opening : (names : List Spelling) (old new : Nest) (kind : GroupKind) → group_opened old kind ≡ Ok new → AreFit names old → AreFit names new
 unfolding AreFit
-fit_after_opening names old new kind is fit = (fit.0, open_keeps (IsFit names) (AreHeld names) (λ _. Unit {0}) old new kind is fit.1)
+fit_after_opening names old new kind is fit = (fit.0, open_keeps (IsFit names) (IsPlainList names) (λ _. Unit {0}) old new kind is fit.1)
 
 pub fit_after_closing : (names : List Spelling) (old new : Nest) (kind : GroupKind) → group_closed old kind ≡ Ok new → AreFit names old → AreFit names new
 unfolding AreFit
-fit_after_closing names old new kind is fit = (fit.0, close_keeps (IsFit names) (AreHeld names) (λ _. Unit {0}) old new kind is fit.1)
+fit_after_closing names old new kind is fit = (fit.0, close_keeps (IsFit names) (IsPlainList names) (λ _. Unit {0}) old new kind is fit.1)
+
+-- What a token register holds can be put in front.
+pub toks_fit : (names : List Spelling) (nest : Nest) (key : ToksKey) (value : List Token) → AreFit names nest → toks_at nest key ≡ Ok value → IsPlainList names value
+unfolding AreFit
+toks_fit names nest key value fit is = toks_has (IsFit names) (IsPlainList names) (λ _. Unit {0}) nest key value is fit.1 (tt, tt)

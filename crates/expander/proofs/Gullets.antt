@@ -2,7 +2,7 @@
 use Rattle.std.proofs.Common.{◌≡◌, ℕ, Result, Ok, Err, refl}
 use Rattle.std.specs.Result.{IsErr, IsErrAnd}
 use mathlib.Core.Bool.{false≢true}
-use Rattle.ts_base.specs.Agreement.{Cause, with_fault, AgreesFault, Agrees, CountsFault, Counts, IsUncounted, Uncounted}
+use Rattle.ts_base.specs.Agreement.{Cause, Determined, with_fault, AgreesFault, Agrees, CountsFault, Counts, IsUncounted, Uncounted}
 use Rattle.ts_base.proofs.Composing.{fault_agrees}
 use Rattle.mouth.specs.declared.fault.MouthFault.{MouthFault}
 use Rattle.mouth.specs.declared.fault.MouthFault.TheVariants as mouth_faults
@@ -11,11 +11,13 @@ use Rattle.mouth.specs.Reading.{Stop, at_place, stop_cause, mouth_cause}
 use Rattle.raw_texts.specs.declared.fault.MacroFault.{MacroFault}
 use Rattle.raw_texts.specs.declared.fault.MacroFault.TheVariants as macro_faults
 use Rattle.raw_texts.specs.Faults.{macro_cause}
+use Rattle.scan_numbers.specs.declared.fault.ScanKind.{ScanKind}
+use Rattle.scan_numbers.specs.declared.fault.ScanKind.TheVariants as kinds
 use Rattle.expander.specs.declared.fault.StepFault.{StepFault}
 use Rattle.expander.specs.declared.fault.StepFault.TheVariants as step_faults
 use Rattle.expander.specs.declared.gullet_fault.GulletFault.{GulletFault}
 use Rattle.expander.specs.Faults.{step_cause}
-use Rattle.expander.specs.GulletFaults.{gullet_cause, of_mouth_fault, of_macro_fault, of_step_fault, stop_as}
+use Rattle.expander.specs.GulletFaults.{gullet_cause, of_mouth_fault, of_macro_fault, of_scan_kind, of_step_fault, stop_as}
 
 pub mouth_same : (e : MouthFault) → gullet_cause (of_mouth_fault e) ≡ mouth_cause e
 mouth_same mouth_faults.FileEnded = refl
@@ -42,10 +44,20 @@ macro_same macro_faults.NoBrace = refl
 macro_same macro_faults.NoName = refl
 macro_same macro_faults.ExtraCond = refl
 
+scan_same : (kind : ScanKind) → gullet_cause (of_scan_kind kind) ≡ Determined
+scan_same kinds.NoNumber = refl
+scan_same kinds.NumberRange = refl
+scan_same kinds.NoUnit = refl
+scan_same kinds.DimenRange = refl
+scan_same kinds.NoName = refl
+scan_same kinds.RegisterRange = refl
+scan_same kinds.CodeRange = refl
+
 pub step_same : (e : StepFault) → gullet_cause (of_step_fault e) ≡ step_cause e
 step_same (step_faults.Text fault) = macro_same fault
 step_same step_faults.Undefined = refl
 step_same step_faults.CsnameEnd = refl
+step_same (step_faults.Scan kind) = scan_same kind
 
 module _ {E : Type 0} (becomes : E → GulletFault) (cause : E → Cause) (same : (e : E) → gullet_cause (becomes e) ≡ cause e) where
   pub refuses_as : {X Y : Type 0} (view : X → Y) (place : Place) (result : Result X GulletFault) (e : E) (given : Result Y (Stop E))

@@ -11,4 +11,8 @@ pub mod Comparing
 pub mod Outcomes
 pub mod Texts
 pub mod Sized
+pub mod Scanning
 pub mod Defining
+pub mod Knowing
+pub mod Printing
+pub mod Turns

@@ -1,6 +1,6 @@
 -- What an expansion leaves is no more than what stood after its token, and the next unexpandable token leaves less: so no call
 -- is ever asked of too much.
-use Rattle.std.proofs.Common.{◌≡◌, ◌≤◌, ◌<◌, ◌+◌, ℕ, zero, suc, Bool, true, false, List, [], ◌∷◌, length, Option, Some, None, Ok, Err, arith, ap, ◌∙◌}
+use Rattle.std.proofs.Common.{◌≡◌, ◌≤◌, ◌<◌, ◌+◌, ℕ, zero, suc, Bool, true, false, List, [], ◌∷◌, ◌++◌, length, Option, Some, None, Result, Ok, Err, arith, ap, ◌∙◌}
 use Rattle.std.specs.Prelude.{IfOk, if◌then◌else◌, nat_lt}
 use Rattle.ts_base.specs.Agreement.{◌>>=◌, with_fault}
 use Rattle.tok_lists.specs.declared.token.Token.{Token}
@@ -21,6 +21,13 @@ use Rattle.raw_texts.specs.declared.skipping.Ended.{Ended}
 use Rattle.raw_texts.specs.declared.skipping.Ended.TheVariants as ended_by
 use Rattle.raw_texts.specs.Skipping.{skipped}
 use Rattle.macros.specs.Calls.{call}
+use Rattle.scan_numbers.specs.declared.fault.ScanKind.{ScanKind}
+use Rattle.scan_numbers.specs.Tokens.{FedToken}
+use Rattle.scan_numbers.specs.Answers.{Form, Expanded, Raw, Answer, Got, Needs, Bad}
+use Rattle.scan_syntax.specs.declared.want.Want.{Want}
+use Rattle.scan_syntax.specs.declared.want.Value.{Value}
+use Rattle.scan_syntax.specs.Scans.{grammar}
+use Rattle.expander.specs.declared.action.Printing.{Printing}
 use Rattle.expander.specs.declared.action.Front.{Front}
 use Rattle.expander.specs.declared.action.Front.TheVariants as fronts
 use Rattle.expander.specs.declared.action.Action.{Action}
@@ -33,7 +40,9 @@ use Rattle.expander.specs.Conditionals.{relax, innermost, allows, branch_ended, 
 use Rattle.expander.specs.Questions.{answer, asked}
 use Rattle.expander.specs.Comparisons.{mean_same, if_x}
 use Rattle.expander.specs.Plain.{body_put, called, kept, spelt, work, acted}
-use Rattle.expander.specs.Steps.{Call, Next, Expand, Given, Calls, next_on, next_step, second, expand_next, expand_after, around, acts, expand_as, expand_step, step}
+use Rattle.expander.specs.Scanning.{fed_in, left_over}
+use Rattle.expander.specs.Numbers.{want_of, shown, shown_put}
+use Rattle.expander.specs.Steps.{Call, Next, Expand, Scan, Given, Calls, wanted, scan_on, scan_step, next_on, next_step, second, expand_next, expand_after, print_scanned, around, acts, expand_as, expand_step, step}
 use Rattle.expander.specs.Expansion.{rank, gives_up, below, calls_at, run}
 use Rattle.std.proofs.lemmas.Result.{IfOk-at_ok}
 use Rattle.expander.proofs.Equations.{run_is, below_run}
@@ -144,6 +153,7 @@ work_grows nest token (actions.Ends limb) r = few_grow _ (size r) (limb_grows ne
 work_grows nest token (actions.Asks question) r = none_grow _ (size r) (asked_falls nest question r)
 work_grows nest token actions.IfX r = none_grow _ (size r) (if_x_falls nest r)
 work_grows nest token actions.ExpandAfter r = omega arith
+work_grows nest token (actions.Prints printing) r = omega arith
 work_grows nest token actions.Missing r = omega arith
 work_grows nest token actions.Unexpandable r = omega arith
 
@@ -151,12 +161,17 @@ pub acted_falls : (nest : Nest) (token : Token) (action : Action) (r : Reading) 
 unfolding acted Grows
 acted_falls nest token action r = expansion_falls (work nest token action) r (work_grows nest token action)
 
+shown_grows : (a : Result (List Token) ScanKind) (r : Reading) → IfOk (shown_put a r) (λ v. size v ≤ size r + 1000000)
+shown_grows (Ok list) r = put_grows list r
+shown_grows (Err kind) r = tt
+
 -- ---- steps
 
 -- how much a call leaves at most
 abbrev pub Leaves : (call : Call) → World → Given call → Type 0
 Leaves Next w t = size t.1.at < size w.at
 Leaves (Expand token) w v = size v.at ≤ size w.at
+Leaves (Scan want before) w y = size y.1.at ≤ size w.at + 1000000
 
 -- All calls leave so much.
 abbrev pub AllFall : Calls → Type 0
@@ -201,10 +216,16 @@ module _ (f : Calls) (fall : AllFall f) where
   plainly : (token : Token) (action : Action) (w : World) → IfOk (in_world w (acted w.nest token action w.at)) (λ v. size v.at ≤ size w.at)
   plainly token action w = in_world_falls (size w.at) w (acted w.nest token action w.at) (acted_falls w.nest token action w.at)
 
+  print_grows : (printing : Printing) (w : World) → IfOk (print_scanned f printing w) (λ v. size v.at ≤ size w.at + 100000000000)
+  print_grows printing w = if_bind (f (Scan (want_of printing) []) w) _ (λ y. size y.1.at ≤ size w.at + 1000000) _ (fall (Scan (want_of printing) []) w) (λ y few.
+      if_weaker (in_world y.1 (shown_put (shown printing y.0) y.1.at)) (λ v. size v.at ≤ size y.1.at + 1000000) _
+      (in_world_falls (size y.1.at + 1000000) y.1 (shown_put (shown printing y.0) y.1.at) (shown_grows (shown printing y.0) y.1.at)) (λ v more. omega (arith, few, more)))
+
   acts_fall : (token : Token) (action : Action) (w : World) → IfOk (acts f token action w) (λ v. size v.at ≤ size w.at)
   acts_fall token actions.Missing w = tt
   acts_fall token actions.Unexpandable w = omega arith
   acts_fall token actions.ExpandAfter w = around_falls (expand_after f) w expand_after_grows
+  acts_fall token (actions.Prints printing) w = around_falls (print_scanned f printing) w (print_grows printing)
   acts_fall token actions.NoExpand w = plainly token actions.NoExpand w
   acts_fall token actions.String w = plainly token actions.String w
   acts_fall token actions.EndInput w = plainly token actions.EndInput w
@@ -221,9 +242,25 @@ module _ (f : Calls) (fall : AllFall f) where
   unfolding expand_step
   expand_step_falls token w = as_falls token (front_of w.nest token) w
 
+  pub wanted_falls : (form : Form) (w : World) → IfOk (wanted f form w) (λ t. size t.1.at < size w.at)
+  wanted_falls Expanded w = fall Next w
+  wanted_falls Raw w = if_bind (plain_from w.nest w.at) _ (λ t. size t.1 < size w.at) _ (plain_token_falls w.nest w.at) (λ t less. less)
+
+  scan_on_grows : (want : Want) (before : List FedToken) (answer : Answer Value) (w : World) → IfOk (scan_on f want before answer w) (λ y. size y.1.at ≤ size w.at + 1000000)
+  scan_on_grows want before (Got value context rest) w = if_bind (put (left_over rest) w.at) _ (λ v. size v ≤ size w.at + 1000000) _ (put_grows (left_over rest) w.at) (λ v more. more)
+  scan_on_grows want before (Bad kind) w = tt
+  scan_on_grows want before (Needs form) w = if_bind (wanted f form w) _ (λ t. size t.1.at < size w.at) _ (wanted_falls form w) (λ t less.
+      if_weaker (f (Scan want (before ++ fed_in t.1 t.0 ∷ [])) t.1) (λ y. size y.1.at ≤ size t.1.at + 1000000) _ (fall (Scan want (before ++ fed_in t.1 t.0 ∷ [])) t.1)
+      (λ y more. omega (arith, less, more)))
+
+  scan_step_grows : (want : Want) (before : List FedToken) (w : World) → IfOk (scan_step f want before w) (λ y. size y.1.at ≤ size w.at + 1000000)
+  unfolding scan_step
+  scan_step_grows want before w = scan_on_grows want before (grammar want before) w
+
   pub step_falls : AllFall (step f)
   step_falls Next w = next_step_falls w
   step_falls (Expand token) w = expand_step_falls token w
+  step_falls (Scan want before) w = scan_step_grows want before w
 
 -- ---- the steps over themselves
 

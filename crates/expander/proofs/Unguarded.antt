@@ -14,7 +14,10 @@ use Rattle.expander.specs.declared.action.Action.TheVariants as actions
 use Rattle.expander.specs.Faults.{of_mouth}
 use Rattle.expander.specs.Worlds.{World, world, Outcome, token_from, plain_from, put, in_world}
 use Rattle.expander.specs.Actions.{expands, front_of}
-use Rattle.expander.specs.Steps.{Expand, second, expand_next, expand_after, around, acts, expand_as, expand_step}
+use Rattle.expander.specs.declared.action.Printing.{Printing}
+use Rattle.scan_syntax.specs.declared.want.Value.{Value}
+use Rattle.expander.specs.Numbers.{want_of, shown, shown_put}
+use Rattle.expander.specs.Steps.{Calls, Expand, Scan, second, expand_next, expand_after, print_scanned, around, acts, expand_as, expand_step}
 use Rattle.expander.specs.Expansion.{rank, below, run}
 use Rattle.expander.proofs.Equations.{run_is, below_run}
 use Rattle.expander.proofs.Falling.{bind_same, token_less, plain_less, begun_size}
@@ -33,13 +36,20 @@ after_same k w less = bind_same (plain_from w.nest w.at) _ _ (λ a first.
     let fewer = plain_less w.nest w.at a first in
     ap (λ (x : Outcome World). x >>= λ v. in_world v (put (a.0 ∷ []) v.at)) (next_same k (world a.1 w.nest) (omega (arith, less, fewer))))
 
-around_same : (k : ℕ) (w : World) → 8 * size w.at < k + 1 → around (expand_after (below k run)) w ≡ around (expand_after run) w
-around_same k w less = bind_same (with_fault of_mouth (begun w.at)) _ _ (λ at from.
+-- An expansion that makes calls stands below the one that makes it, by its unit.
+around_same : (does : Calls → World → Outcome World) (k : ℕ) (w : World) → ((v : World) → 8 * size v.at + 8 < k → does (below k run) v ≡ does run v) → 8 * size w.at < k + 1
+    → around (does (below k run)) w ≡ around (does run) w
+around_same does k w same less = bind_same (with_fault of_mouth (begun w.at)) _ _ (λ at from.
     let fewer = begun_size w.at at from in
-    ap (λ (x : Outcome World). x >>= λ v. Ok (world (ended v.at) v.nest)) (after_same k (world at w.nest) (omega (arith, less, fewer))))
+    ap (λ (x : Outcome World). x >>= λ v. Ok (world (ended v.at) v.nest)) (same (world at w.nest) (omega (arith, less, fewer))))
+
+print_same : (k : ℕ) (printing : Printing) (w : World) → 8 * size w.at + 8 < k → print_scanned (below k run) printing w ≡ print_scanned run printing w
+print_same k printing w less =
+    ap (λ (x : Outcome (Value × World)). x >>= λ v. in_world v.1 (shown_put (shown printing v.0) v.1.at)) (below_run k (Scan (want_of printing) []) w (omega (arith, less)))
 
 acts_same : (k : ℕ) (token : Token) (action : Action) (w : World) → 8 * size w.at < k + 1 → acts (below k run) token action w ≡ acts run token action w
-acts_same k token actions.ExpandAfter w less = around_same k w less
+acts_same k token actions.ExpandAfter w less = around_same expand_after k w (λ v few. after_same k v (omega (arith, few))) less
+acts_same k token (actions.Prints printing) w less = around_same (λ f. print_scanned f printing) k w (λ v few. print_same k printing v few) less
 acts_same k token actions.NoExpand w less = refl
 acts_same k token actions.String w less = refl
 acts_same k token actions.EndInput w less = refl

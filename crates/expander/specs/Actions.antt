@@ -14,6 +14,7 @@ use Rattle.expander.specs.declared.action.Front.TheVariants as fronts
 use Rattle.expander.specs.declared.action.Action.{Action}
 use Rattle.expander.specs.declared.action.Action.TheVariants as actions
 use Rattle.expander.specs.declared.action.Question.TheVariants as questions
+use Rattle.expander.specs.declared.action.Printing.TheVariants as printings
 
 -- A primitive that is expanded and stands in no line here has no step yet.
 abbrev pub action_of : PrimitiveName → Action
@@ -34,14 +35,14 @@ action_of prims.IfYDir = actions.Asks questions.YDir
 action_of prims.IfTDir = actions.Asks questions.TDir
 action_of prims.IfDDir = actions.Asks questions.DDir
 action_of prims.CsName = actions.Missing
-action_of prims.Number = actions.Missing
-action_of prims.RomanNumeral = actions.Missing
-action_of prims.The = actions.Missing
+action_of prims.Number = actions.Prints printings.Number
+action_of prims.RomanNumeral = actions.Prints printings.RomanNumeral
+action_of prims.The = actions.Prints printings.The
 action_of prims.Input = actions.Missing
-action_of prims.Jis = actions.Missing
-action_of prims.Euc = actions.Missing
-action_of prims.Sjis = actions.Missing
-action_of prims.Kuten = actions.Missing
+action_of prims.Jis = actions.Prints printings.Jis
+action_of prims.Euc = actions.Prints printings.Euc
+action_of prims.Sjis = actions.Prints printings.Sjis
+action_of prims.Kuten = actions.Prints printings.Kuten
 action_of prims.If = actions.Missing
 action_of prims.IfCat = actions.Missing
 action_of prims.IfNum = actions.Missing

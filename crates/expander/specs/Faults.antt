@@ -13,6 +13,7 @@ abbrev pub step_cause : StepFault → Cause
 step_cause (faults.Text fault) = macro_cause fault
 step_cause faults.Undefined = Determined
 step_cause faults.CsnameEnd = Determined
+step_cause (faults.Scan kind) = Determined
 
 -- a fault of a text, at its place
 abbrev pub of_text : Stop MacroFault → Stop StepFault

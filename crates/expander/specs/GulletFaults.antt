@@ -6,6 +6,8 @@ use Rattle.mouth.specs.declared.fault.MouthFault.TheVariants as mouth_faults
 use Rattle.mouth.specs.Reading.{Stop, at_place}
 use Rattle.raw_texts.specs.declared.fault.MacroFault.{MacroFault}
 use Rattle.raw_texts.specs.declared.fault.MacroFault.TheVariants as macro_faults
+use Rattle.scan_numbers.specs.declared.fault.ScanKind.{ScanKind}
+use Rattle.scan_numbers.specs.declared.fault.ScanKind.TheVariants as kinds
 use Rattle.expander.specs.declared.fault.StepFault.{StepFault}
 use Rattle.expander.specs.declared.fault.StepFault.TheVariants as step_faults
 use Rattle.expander.specs.declared.gullet_fault.GulletFault.{GulletFault}
@@ -42,10 +44,20 @@ of_macro_fault macro_faults.NoBrace = faults.NoBrace
 of_macro_fault macro_faults.NoName = faults.NoName
 of_macro_fault macro_faults.ExtraCond = faults.ExtraCond
 
+abbrev pub of_scan_kind : ScanKind → GulletFault
+of_scan_kind kinds.NoNumber = faults.NoNumber
+of_scan_kind kinds.NumberRange = faults.NumberRange
+of_scan_kind kinds.NoUnit = faults.NoUnit
+of_scan_kind kinds.DimenRange = faults.DimenRange
+of_scan_kind kinds.NoName = faults.NoName
+of_scan_kind kinds.RegisterRange = faults.RegisterRange
+of_scan_kind kinds.CodeRange = faults.CodeRange
+
 abbrev pub of_step_fault : StepFault → GulletFault
 of_step_fault (step_faults.Text fault) = of_macro_fault fault
 of_step_fault step_faults.Undefined = faults.Undefined
 of_step_fault step_faults.CsnameEnd = faults.CsnameEnd
+of_step_fault (step_faults.Scan kind) = of_scan_kind kind
 
 -- the same at its place
 abbrev pub stop_as : {E : Type 0} → (E → GulletFault) → Stop E → Stop GulletFault

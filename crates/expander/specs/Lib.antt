@@ -5,6 +5,8 @@ pub mod Conditionals
 pub mod Questions
 pub mod Comparisons
 pub mod Plain
+pub mod Scanning
+pub mod Numbers
 pub mod Steps
 pub mod Expansion
 pub mod Definitions

@@ -22,6 +22,25 @@ pub enum Question {
     DDir,
 }
 
+/// What a value that is scanned is printed as (The TeXbook, chapter 20; pTeX).
+#[derive(Clone, Copy, Debug, PartialEq, Eq)]
+pub enum Printing {
+    /// `\number`.
+    Number,
+    /// `\romannumeral`.
+    RomanNumeral,
+    /// `\the`.
+    The,
+    /// `\jis`.
+    Jis,
+    /// `\euc`.
+    Euc,
+    /// `\sjis`.
+    Sjis,
+    /// `\kuten`.
+    Kuten,
+}
+
 /// What a primitive does where it is expanded (The TeXbook, chapter 20).
 #[derive(Clone, Copy, Debug, PartialEq, Eq)]
 pub enum Action {
@@ -34,6 +53,8 @@ pub enum Action {
     /// A test that reads no token.
     Asks(Question),
     IfX,
+    /// It scans a value, and prints it.
+    Prints(Printing),
     /// It is expanded, and its step isn't there yet.
     Missing,
     /// It isn't expanded.

@@ -4,7 +4,7 @@ ghost use Rattle.std.specs.Prelude.{◌≡◌};
 ghost use Rattle.expander.specs.Actions.{action_of as the_action_of, is_expanded as the_expanded, front_of as the_front, expands as the_expands, IsSound};
 ghost use Rattle.expander.specs.Questions.{answer as the_answer, is_vertical, is_horizontal, is_inner};
 
-use crate::action::{Action, Front, Question};
+use crate::action::{Action, Front, Printing, Question};
 use env_groups::{Env, Meaning, Mode, Prim, Situation};
 use raw_texts::Limb;
 use tok_lists::Token;
@@ -31,15 +31,15 @@ pub(crate) fn action_of(prim: Prim) -> Action
         Prim::IfYDir => Action::Asks(Question::YDir),
         Prim::IfTDir => Action::Asks(Question::TDir),
         Prim::IfDDir => Action::Asks(Question::DDir),
+        Prim::Number => Action::Prints(Printing::Number),
+        Prim::RomanNumeral => Action::Prints(Printing::RomanNumeral),
+        Prim::The => Action::Prints(Printing::The),
+        Prim::Jis => Action::Prints(Printing::Jis),
+        Prim::Euc => Action::Prints(Printing::Euc),
+        Prim::Sjis => Action::Prints(Printing::Sjis),
+        Prim::Kuten => Action::Prints(Printing::Kuten),
         Prim::CsName
-        | Prim::Number
-        | Prim::RomanNumeral
-        | Prim::The
         | Prim::Input
-        | Prim::Jis
-        | Prim::Euc
-        | Prim::Sjis
-        | Prim::Kuten
         | Prim::If
         | Prim::IfCat
         | Prim::IfNum

@@ -1,25 +1,30 @@
 //! Expansion: one token, and the next unexpandable one.
 
-ghost use Rattle.std.specs.Prelude.{◌≡◌, ◌≤◌, ◌<◌, ◌+◌, OnOk, IfOk};
+ghost use Rattle.std.specs.Prelude.{◌≡◌, ◌≤◌, ◌<◌, ◌+◌, [], OnOk, IfOk};
 ghost use Rattle.ts_base.specs.Agreement.{Counts};
 ghost use Rattle.mouth.specs.Keeping.{reading, AgreesAt, AreOpen, AreTold, IsReadable, IsToken};
 ghost use Rattle.mouth.specs.Tokens.{plain as the_plain};
 ghost use Rattle.mouth.specs.Sizes.{size};
 ghost use Rattle.expander.specs.Faults.{step_cause};
 ghost use Rattle.expander.specs.Worlds.{world};
-ghost use Rattle.expander.specs.Holding.{AreFit, Goes};
-ghost use Rattle.expander.specs.Steps.{Next, Expand, acts, expand_next as the_expand_next, expand_after as the_expand_after};
+ghost use Rattle.expander.specs.Holding.{AreFit, Goes, IsListed, IsPlainList};
+ghost use Rattle.expander.specs.Scanning.{form_of};
+ghost use Rattle.expander.specs.Steps.{Next, Expand, Scan as ScanCall, acts, wanted, expand_next as the_expand_next, expand_after as the_expand_after, print_scanned as the_print_scanned};
 ghost use Rattle.expander.specs.Expansion.{run};
 
-use crate::action::{Action, Front};
+use crate::action::{Action, Front, Printing};
 use crate::actions::{front_of, is_expandable};
 use crate::fault::StepFault;
+use crate::numbers::{put_shown, want_of};
 use crate::plain::{act, expand_call, put};
+use crate::scans::give_back;
 use crate::steps::{begin, take, take_plain};
 use env_groups::Env;
 use mouth::Mouth;
+use scan_syntax::{Fed, Scan, ScanFault, Value, Want};
 use std::alloc::Global;
 use tok_lists::Token;
+use ts_base::NoMemory;
 use ts_outside::Files;
 
 // The plain name of a Kept token, and any other token as it is.
@@ -101,6 +106,12 @@ fn expand_primitive<F: Files>(
             mouth.end();
             Ok(())
         }
+        Action::Prints(printing) => {
+            begin(mouth)?;
+            print_scanned(alloc, mouth, files, env, printing)?;
+            mouth.end();
+            Ok(())
+        }
         _ => act(alloc, mouth, files, env, token, action),
     }
 }
@@ -168,6 +179,7 @@ fn expand_next<F: Files>(
 
 /// Returns the next unexpandable token: tokens at the front are expanded until one isn't
 /// expandable.
+#[cycle(expand)]
 #[tactic(auto, using(crate::proofs::Fitting::fit_still, crate::proofs::Fitting::fit_relax, crate::proofs::Chains::goes_then))]
 pub(crate) fn next_token<F: Files>(
     alloc: Global,
@@ -198,4 +210,110 @@ pub(crate) fn next_token<F: Files>(
         }
         expand(alloc, mouth, files, env, token)?;
     }
+}
+
+// Takes a token in the form in which it is wanted.
+#[cycle(expand)]
+#[tactic(auto, using(crate::proofs::Fitting::fit_still, crate::proofs::Fitting::fit_relax))]
+fn take_wanted<F: Files>(
+    alloc: Global,
+    mouth: &mut Mouth,
+    files: &mut F,
+    env: &mut Env,
+    raw: bool,
+) -> Result<Token, StepFault>
+    requires opened { AreOpen mouth.old (F.state files.old) }
+    requires readable { IsReadable mouth.old }
+    requires fit { AreFit mouth.old.names env.old }
+    ensures exact { AreTold mouth.old (F.state files.old)
+        → AgreesAt (λ token. (token, world (reading mouth.new (F.state files.new)) env.new))
+        step_cause mouth.new result (wanted run (form_of raw)
+        (world (reading mouth.old (F.state files.old)) env.old)) }
+    ensures goes { Goes mouth.old (F.state files.old) mouth.new (F.state files.new) }
+    ensures readable { OnOk result (IsReadable mouth.new) }
+    ensures fit { AreFit mouth.new.names env.new }
+    ensures token { IfOk result (IsToken mouth.new.names) }
+    ensures size { OnOk result (size (reading mouth.new (F.state files.new))
+        < size (reading mouth.old (F.state files.old))) }
+    ensures counted { Counts step_cause result (F.state files.old).faults
+        (F.state files.new).faults }
+{
+    if raw {
+        let token = take_plain(mouth, files, env)?;
+        return Ok(token);
+    }
+    next_token(alloc, mouth, files, env)
+}
+
+/// Scans: the tokens that a scan wants are expanded, or taken as they are, one after the other, and
+/// what it leaves is put back. Returns what it found. `Scan` comes exactly where the tokens so far
+/// have that fault (The TeXbook, chapter 24).
+#[cycle(expand)]
+#[tactic(auto, using(crate::proofs::Fitting::fit_still, crate::proofs::Fitting::fit_relax, crate::proofs::Chains::goes_then, crate::proofs::Turns::turned_first))]
+pub(crate) fn scan<F: Files>(
+    alloc: Global,
+    mouth: &mut Mouth,
+    files: &mut F,
+    env: &mut Env,
+    want: Want,
+) -> Result<Value, StepFault>
+    requires opened { AreOpen mouth.old (F.state files.old) }
+    requires readable { IsReadable mouth.old }
+    requires fit { AreFit mouth.old.names env.old }
+    ensures exact { AreTold mouth.old (F.state files.old)
+        → AgreesAt (λ value. (value, world (reading mouth.new (F.state files.new)) env.new))
+        step_cause mouth.new result (run (ScanCall want [])
+        (world (reading mouth.old (F.state files.old)) env.old)) }
+    ensures goes { Goes mouth.old (F.state files.old) mouth.new (F.state files.new) }
+    ensures readable { OnOk result (IsReadable mouth.new) }
+    ensures fit { AreFit mouth.new.names env.new }
+    ensures listed { IfOk result (IsListed (IsPlainList mouth.new.names)) }
+    ensures size { OnOk result (size (reading mouth.new (F.state files.new))
+        ≤ size (reading mouth.old (F.state files.old)) + 1000000) }
+    ensures counted { Counts step_cause result (F.state files.old).faults
+        (F.state files.new).faults }
+{
+    let mut scan = Scan::new(alloc, want);
+    let mut raw = false;
+    loop {
+        let token = take_wanted(alloc, mouth, files, env, raw)?;
+        match scan.feed(token, env, mouth.names()) {
+            Ok(Fed::Expanded) => raw = false,
+            Ok(Fed::Raw) => raw = true,
+            Ok(Fed::Done(value, tokens)) => return give_back(alloc, mouth, value, &tokens),
+            Err(ScanFault::Kind(kind)) => return Err(StepFault::Scan(kind)),
+            Err(ScanFault::NoMemory) => return Err(StepFault::from(NoMemory)),
+        }
+    }
+}
+
+/// Scans a value and puts what it is printed as in front: `\number`, `\romannumeral`, `\the`,
+/// `\jis`, `\euc`, `\sjis` and `\kuten` (The TeXbook, chapter 20; pTeX). `CodeRange` comes exactly
+/// where a number is that of no Japanese character in the coding.
+#[cycle(expand)]
+#[tactic(auto, using(crate::proofs::Fitting::fit_still, crate::proofs::Fitting::fit_relax, crate::proofs::Chains::goes_then))]
+pub(crate) fn print_scanned<F: Files>(
+    alloc: Global,
+    mouth: &mut Mouth,
+    files: &mut F,
+    env: &mut Env,
+    printing: Printing,
+) -> Result<(), StepFault>
+    requires opened { AreOpen mouth.old (F.state files.old) }
+    requires readable { IsReadable mouth.old }
+    requires fit { AreFit mouth.old.names env.old }
+    ensures exact { AreTold mouth.old (F.state files.old)
+        → AgreesAt (λ _. world (reading mouth.new (F.state files.new)) env.new) step_cause
+        mouth.new result (the_print_scanned run printing
+        (world (reading mouth.old (F.state files.old)) env.old)) }
+    ensures goes { Goes mouth.old (F.state files.old) mouth.new (F.state files.new) }
+    ensures readable { OnOk result (IsReadable mouth.new) }
+    ensures fit { AreFit mouth.new.names env.new }
+    ensures size { OnOk result (size (reading mouth.new (F.state files.new))
+        ≤ size (reading mouth.old (F.state files.old)) + 2000000) }
+    ensures counted { Counts step_cause result (F.state files.old).faults
+        (F.state files.new).faults }
+{
+    let value = scan(alloc, mouth, files, env, want_of(printing))?;
+    put_shown(alloc, mouth, printing, &value)
 }

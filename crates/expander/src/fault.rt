@@ -7,6 +7,7 @@ ghost use Rattle.expander.specs.declared.fault.StepFault.TheVariants as faults;
 
 use mouth::MouthFault;
 use raw_texts::MacroFault;
+use scan_syntax::ScanKind;
 use thiserror::Error;
 use ts_base::NoMemory;
 
@@ -22,6 +23,9 @@ pub enum StepFault {
     /// Something other than a character stands before an `\endcsname`.
     #[error("a name ended too early")]
     CsnameEnd,
+    /// What is scanned isn't there, or is out of range.
+    #[error("no such value")]
+    Scan(ScanKind),
 }
 
 impl From<MacroFault> for StepFault {

@@ -16,15 +16,16 @@ ghost use Rattle.mouth.specs.Sizes.{size};
 ghost use Rattle.mouth.specs.Keeping.{numbers, reading, place_in, AgreesAt, AreOpen, AreTold, IsReadable, IsToken, KeepsFiles, LeavesOthers};
 ghost use Rattle.expander.specs.GulletFaults.{gullet_cause, of_mouth_fault, of_step_fault, stop_as, IsStartFault};
 ghost use Rattle.expander.specs.Worlds.{world};
-ghost use Rattle.expander.specs.Holding.{AreFit, Goes};
-ghost use Rattle.expander.specs.Steps.{Next};
+ghost use Rattle.expander.specs.Holding.{AreFit, Goes, IsListed, IsPlainList};
+ghost use Rattle.expander.specs.Steps.{Next, Scan as ScanCall};
 ghost use Rattle.expander.specs.Expansion.{run};
 
-use crate::expansion::next_token;
+use crate::expansion::{next_token, scan};
 use crate::gullet_fault::GulletFault;
 use env_groups::Env;
 use input_codings::Coding;
 use mouth::{Mouth, Place};
+use scan_syntax::{Value, Want};
 use std::alloc::Global;
 use std::marker::Model;
 use tok_lists::{SharedTokens, Token};
@@ -127,6 +128,37 @@ impl Gullet {
             (F.state files.new).faults }
     {
         Ok(self.mouth.next_plain(files, &*env)?)
+    }
+
+    /// Scans: feeds a scan with the tokens that it wants, expanded or as they are, and puts back
+    /// what it hands back (The TeXbook, chapter 24). Dimensions and glue are in scaled points.
+    ///
+    /// `NoNumber`, `NumberRange`, `NoUnit`, `DimenRange`, `RegisterRange`, `CodeRange` and `NoName`
+    /// come exactly where the tokens so far have that fault, and what `next` refuses exactly where
+    /// expansion gives it first. After a fault only `place` and `close_all` are used.
+    pub fn scan<F: Files>(
+        &mut self,
+        files: &mut F,
+        env: &mut Env,
+        want: Want,
+    ) -> Result<Value, GulletFault>
+        requires opened { AreOpen self.old (F.state files.old) }
+        requires readable { IsReadable self.old }
+        requires fit { AreFit self.old.names env.old }
+        ensures exact { AreTold self.old (F.state files.old)
+            → AgreesAt (λ value. (value, world (reading self.new (F.state files.new)) env.new))
+            gullet_cause self.new result (with_fault (stop_as of_step_fault)
+            (run (ScanCall want []) (world (reading self.old (F.state files.old)) env.old))) }
+        ensures goes { Goes self.old (F.state files.old) self.new (F.state files.new) }
+        ensures readable { OnOk result (IsReadable self.new) }
+        ensures fit { AreFit self.new.names env.new }
+        ensures listed { IfOk result (IsListed (IsPlainList self.new.names)) }
+        ensures size { OnOk result (size (reading self.new (F.state files.new))
+            ≤ size (reading self.old (F.state files.old)) + 1000000) }
+        ensures counted { Counts gullet_cause result (F.state files.old).faults
+            (F.state files.new).faults }
+    {
+        Ok(scan(self.alloc, &mut self.mouth, files, env, want)?)
     }
 
     /// Puts a list in front of what is pending in the innermost file. `TokensFull` comes exactly

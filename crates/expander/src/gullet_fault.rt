@@ -1,11 +1,12 @@
 //! Why the gullet refuses.
 
 ghost use Rattle.std.specs.Prelude.{◌≡◌};
-ghost use Rattle.expander.specs.GulletFaults.{of_mouth_fault, of_macro_fault, of_step_fault};
+ghost use Rattle.expander.specs.GulletFaults.{of_mouth_fault, of_macro_fault, of_scan_kind, of_step_fault};
 
 use crate::fault::StepFault;
 use mouth::MouthFault;
 use raw_texts::MacroFault;
+use scan_syntax::ScanKind;
 use thiserror::Error;
 
 /// Why the gullet refuses. The place of a fault is `Gullet::place`.
@@ -135,6 +136,22 @@ impl From<MacroFault> for GulletFault {
     }
 }
 
+impl From<ScanKind> for GulletFault {
+    ghost from_gives = { λ kind fault. fault ≡ of_scan_kind kind };
+
+    fn from(kind: ScanKind) -> GulletFault {
+        match kind {
+            ScanKind::NoNumber => GulletFault::NoNumber,
+            ScanKind::NumberRange => GulletFault::NumberRange,
+            ScanKind::NoUnit => GulletFault::NoUnit,
+            ScanKind::DimenRange => GulletFault::DimenRange,
+            ScanKind::NoName => GulletFault::NoName,
+            ScanKind::RegisterRange => GulletFault::RegisterRange,
+            ScanKind::CodeRange => GulletFault::CodeRange,
+        }
+    }
+}
+
 impl From<StepFault> for GulletFault {
     ghost from_gives = { λ of_step fault. fault ≡ of_step_fault of_step };
 
@@ -143,6 +160,7 @@ impl From<StepFault> for GulletFault {
             StepFault::Text(fault) => GulletFault::from(fault),
             StepFault::Undefined => GulletFault::Undefined,
             StepFault::CsnameEnd => GulletFault::CsnameEnd,
+            StepFault::Scan(kind) => GulletFault::from(kind),
         }
     }
 }

@@ -4,29 +4,33 @@
 ghost use Rattle.std.specs.Prelude.{◌≡◌, ◌≤◌, ◌<◌, ◌↔◌, ℕ, Bool, List, Ok, IfOk, IsTrue};
 ghost use Rattle.tok_lists.specs.declared.token.Token.{Token};
 ghost use Rattle.tok_lists.specs.declared.spelling.Spelling.{Spelling};
-ghost use Rattle.tok_lists.specs.Names.{Grew, AreHeld};
+ghost use Rattle.tok_lists.specs.Names.{Grew};
 ghost use Rattle.tok_lists.specs.StartNames.{start_names};
 ghost use Rattle.env_groups.specs.declared.group.GroupKind.{GroupKind};
 ghost use Rattle.env_groups.specs.declared.key.ToksKey.{ToksKey};
 ghost use Rattle.env_groups.specs.declared.meaning.Meaning.{Meaning};
 ghost use Rattle.env_groups.specs.Environments.{Nest, start, meaning_set, toks_set, group_opened, group_closed};
-ghost use Rattle.expander.specs.Holding.{AreFit, IsFit};
+ghost use Rattle.expander.specs.Holding.{AreFit, IsFit, IsPlainList};
 ghost use Rattle.mouth.specs.Sizes.{size};
 ghost use Rattle.ts_base.specs.Agreement.{followed_by};
 ghost use Rattle.macros.specs.declared.body.Body.{Body};
 ghost use Rattle.expander.specs.Comparisons.{is_same_meaning};
 ghost use Rattle.expander.specs.Definitions.{next_part, goes_on, expanded};
 ghost use Rattle.expander.specs.Worlds.{World};
-ghost use Rattle.expander.specs.Steps.{Next, Expand, next_step, expand_step};
+ghost use Rattle.scan_numbers.specs.Tokens.{FedToken};
+ghost use Rattle.scan_syntax.specs.declared.want.Want.{Want};
+ghost use Rattle.expander.specs.Steps.{Next, Expand, Scan, next_step, expand_step, scan_step};
 ghost use Rattle.expander.specs.Expansion.{run};
 
 /// Each call is its step, over the calls themselves: that each is asked of less than the one that
 /// makes it takes nothing away.
-#[tactic(auto, using(crate::proofs::Unguarded::expand_is, crate::proofs::Sized::next_is))]
+#[tactic(auto, using(crate::proofs::Unguarded::expand_is, crate::proofs::Sized::next_is, crate::proofs::Scanning::scan_is))]
 pub fn expansion_is_its_steps()
     ensures expand { (token : Token) (w : World)
         → run (Expand token) w ≡ expand_step run token w }
     ensures next { (w : World) → run Next w ≡ next_step run w }
+    ensures scan { (want : Want) (before : List FedToken) (w : World)
+        → run (Scan want before) w ≡ scan_step run want before w }
 {}
 
 /// What an expansion leaves is no more than what stood after its token, and the next unexpandable
@@ -63,7 +67,8 @@ pub fn environments_stay_fit()
         (is_global : Bool) → IsFit names value → AreFit names nest
         → AreFit names (meaning_set nest name value is_global) }
     ensures toks { (names : List Spelling) (old new : Nest) (key : ToksKey) (value : List Token)
-        (is_global : Bool) → toks_set old key value is_global ≡ Ok new → AreHeld names value
+        (is_global : Bool) → toks_set old key value is_global ≡ Ok new
+        → IsPlainList names value
         → AreFit names old → AreFit names new }
     ensures opened { (names : List Spelling) (old new : Nest) (kind : GroupKind)
         → group_opened old kind ≡ Ok new → AreFit names old → AreFit names new }

@@ -13,7 +13,9 @@ mod gullet_fault;
 mod laws;
 #[cfg(test)]
 mod macro_tests;
+mod numbers;
 mod plain;
+mod scans;
 mod steps;
 #[cfg(test)]
 mod tests;

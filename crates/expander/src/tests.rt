@@ -181,6 +181,51 @@ const ROWS: [Row; 7] = [
     },
 ];
 
+const SCANS: [Row; 6] = [
+    Row {
+        source: b"\\number-007 x\n",
+        budget: 1,
+        tokens: b"=-=7x ",
+        fault: GulletFault::NoEnd,
+        line: 1,
+    },
+    Row {
+        source: b"\\romannumeral 14 \\romannumeral-1 y\n",
+        budget: 2,
+        tokens: b"=x=i=vy ",
+        fault: GulletFault::NoEnd,
+        line: 1,
+    },
+    Row {
+        source: b"\\the\\count0 \\the\\dimen1 z\n",
+        budget: 2,
+        tokens: b"=0=0=.=0=p=tz ",
+        fault: GulletFault::NoEnd,
+        line: 1,
+    },
+    Row {
+        source: b"\\number 1\\iftrue 2\\fi 3\n",
+        budget: 3,
+        tokens: b"=1=2=3",
+        fault: GulletFault::NoEnd,
+        line: 1,
+    },
+    Row {
+        source: b"\\number`a\\fi",
+        budget: 9,
+        tokens: b"",
+        fault: GulletFault::ExtraCond,
+        line: 1,
+    },
+    Row {
+        source: b"\nx\\number y",
+        budget: 9,
+        tokens: b"N\x48x",
+        fault: GulletFault::NoNumber,
+        line: 2,
+    },
+];
+
 // The number of the first row that comes to something else.
 fn first_wrong(alloc: Global, rows: &[Row]) -> Result<Option<usize>, Fail> {
     environments_stay_fit();
@@ -196,5 +241,11 @@ fn first_wrong(alloc: Global, rows: &[Row]) -> Result<Option<usize>, Fail> {
 #[test]
 fn primitives_are_expanded(rt: HostRuntime) -> Result<(), Fail> {
     assert_eq!(rt; first_wrong(rt.alloc(), &ROWS)?, None);
+    Ok(())
+}
+
+#[test]
+fn numbers_are_scanned_and_printed(rt: HostRuntime) -> Result<(), Fail> {
+    assert_eq!(rt; first_wrong(rt.alloc(), &SCANS)?, None);
     Ok(())
 }

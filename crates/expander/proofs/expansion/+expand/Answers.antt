@@ -1,7 +1,129 @@
-use Rattle.std.proofs.Common.{sym}
+use Rattle.std.proofs.Common.{◌≡◌, ◌∙◌, refl, sym, arith, true, false}
+use Rattle.mouth.specs.Reading.{at_place}
+use Rattle.mouth.specs.Keeping.{reading, place_in}
+use Rattle.expander.specs.Actions.{expands}
+use Rattle.expander.specs.Faults.{step_cause}
+use Rattle.expander.specs.Worlds.{world}
+use Rattle.expander.specs.Steps.{Next}
+use Rattle.expander.specs.Expansion.{run}
+use Rattle.expander.proofs.Chains.{goes_then, goes_itself}
+use Rattle.expander.proofs.Exits.{step_refuses}
+use Rattle.expander.proofs.Loops.{next_turn, next_done, next_unread, next_refused}
+use Rattle.expander.proofs.Turns.{turned_first, turned_on, turned_bad, turned_done, turned_refused}
 use Rattle.expander.proofs.Fitting.{call_fit}
 use Rattle.expander.proofs.expansion.+expand.Goals as goal
 
 pub expand-expand_call-requires-clause-callable : goal.expand-expand_call-requires-clause-callable
 expand-expand_call-requires-clause-callable g t c =
     call_fit c.args.mouth.now.names c.args.env.now c.args.token c.in-Call.definition (sym c.in-Call.ensures.value) c.requires.fit
+
+pub next_token-returns-in_err-token-clause-exact : goal.next_token-returns-in_err-token-clause-exact
+next_token-returns-in_err-token-clause-exact g t c = λ told.
+    let was = c.loop-token.invariant in
+    let w = world (reading c.loop-token.mouth (g.F.Files.state c.loop-token.files)) c.loop-token.env in
+    let e = c.in_err-token.field-0.0 in
+    let place = place_in c.take.new.mouth in
+    step_refuses _ place c.from_residual.result e _ (run Next w) c.from_residual.ensures (was.same told)
+    (next_unread (step_cause e) w (at_place place e) (c.in_err-token.ensures.exact (was.goes.told told)))
+
+pub next_token-returns-then-not-is_expandable-clause-exact : goal.next_token-returns-then-not-is_expandable-clause-exact
+next_token-returns-then-not-is_expandable-clause-exact g t c = λ told.
+    let was = c.loop-token.invariant in
+    let w = world (reading c.loop-token.mouth (g.F.Files.state c.loop-token.files)) c.loop-token.env in
+    let r1 = reading c.take.new.mouth (g.F.Files.state c.take.new.files) in
+    let not : expands c.loop-token.env c.in_ok-token.token ≡ false = cc in
+    was.same told ∙ next_done w c.in_ok-token.token r1 (c.in_ok-token.ensures.exact (was.goes.told told)) not
+
+pub next_token-returns-in_err-expand-clause-exact : goal.next_token-returns-in_err-expand-clause-exact
+next_token-returns-in_err-expand-clause-exact g t c = λ told.
+    let was = c.loop-token.invariant in
+    let w = world (reading c.loop-token.mouth (g.F.Files.state c.loop-token.files)) c.loop-token.env in
+    let r1 = reading c.take.new.mouth (g.F.Files.state c.take.new.files) in
+    let yes : expands c.loop-token.env c.in_ok-token.token ≡ true = cc in
+    let e = c.in_err-expand.field-0.0 in
+    let place = place_in c.expand.new.mouth in
+    let still = was.goes.told told in
+    let refuses = next_refused (step_cause e) w c.in_ok-token.token r1 (at_place place e) (c.in_ok-token.ensures.exact still) yes (c.in_err-expand.ensures.exact (c.take.ensures.goes.told still)) in
+    step_refuses _ place c.from_residual-in_err-expand.result e _ (run Next w) c.from_residual-in_err-expand.ensures (was.same told) refuses
+
+pub next_token-loop-token-preserved : goal.next_token-loop-token-preserved
+next_token-loop-token-preserved g t c =
+    let was = c.loop-token.invariant in
+    let w = world (reading c.loop-token.mouth (g.F.Files.state c.loop-token.files)) c.loop-token.env in
+    let r1 = reading c.take.new.mouth (g.F.Files.state c.take.new.files) in
+    let v = world (reading c.expand.new.mouth (g.F.Files.state c.expand.new.files)) c.expand.new.env in
+    let yes : expands c.loop-token.env c.in_ok-token.token ≡ true = cc in
+    let first = g.F.Files.state c.args.files.now in
+    let taken = goes_then c.args.mouth.now c.loop-token.mouth c.take.new.mouth first (g.F.Files.state c.loop-token.files) (g.F.Files.state c.take.new.files) was.goes c.take.ensures.goes in
+    record {
+      same = λ told.
+          let still = was.goes.told told in
+          was.same told ∙ next_turn w v c.in_ok-token.token r1 (c.in_ok-token.ensures.exact still) yes (c.in_ok-expand.ensures.exact (c.take.ensures.goes.told still))
+          (omega (arith, c.in_ok-token.ensures.size, c.in_ok-expand.ensures.size));
+      goes = goes_then c.args.mouth.now c.take.new.mouth c.expand.new.mouth first (g.F.Files.state c.take.new.files) (g.F.Files.state c.expand.new.files) taken c.expand.ensures.goes;
+      readable = c.in_ok-expand.ensures.readable;
+      fit = c.expand.ensures.fit;
+      size = omega (arith, c.in_ok-token.ensures.size, c.in_ok-expand.ensures.size, was.size);
+      counted = c.in_ok-expand.ensures.counted ∙ c.in_ok-token.ensures.counted ∙ was.counted;
+    }
+
+pub scan-returns-in_err-token-clause-exact : goal.scan-returns-in_err-token-clause-exact
+scan-returns-in_err-token-clause-exact g t c = λ told.
+    let was = c.loop-scan.invariant in
+    let e = c.in_err-token.field-0.0 in
+    let place = place_in c.take_wanted.new.mouth in
+    step_refuses _ place c.from_residual.result e _ _ c.from_residual.ensures refl
+    (turned_refused _ (step_cause e) c.args.want c.loop-scan.raw _ _ _ (at_place place e) was.turned told (c.in_err-token.ensures.exact (was.goes.told told)))
+
+pub scan-loop-scan-preserved-in-Ok-Expanded : goal.scan-loop-scan-preserved-in-Ok-Expanded
+scan-loop-scan-preserved-in-Ok-Expanded g t c =
+    let was = c.loop-scan.invariant in
+    let stands = rw c.names.ensures at (rw c.in-Ok-Expanded.field-0-is at c.in-Ok-Expanded.ensures.stands) in
+    let exact = rw c.names.ensures at (rw c.in-Ok-Expanded.field-0-is at c.in-Ok-Expanded.ensures.exact) in
+    record {
+      turned = turned_on _ c.args.want c.loop-scan.raw false _ _ _ _ _ c.in_ok-token.token was.turned (λ told. c.in_ok-token.ensures.exact (was.goes.told told))
+          stands exact;
+      goes = goes_then c.args.mouth.now c.loop-scan.mouth c.take_wanted.new.mouth (g.F.Files.state c.args.files.now) (g.F.Files.state c.loop-scan.files) (g.F.Files.state c.take_wanted.new.files) was.goes c.take_wanted.ensures.goes;
+      readable = c.in_ok-token.ensures.readable;
+      fit = c.take_wanted.ensures.fit;
+      size = omega (arith, c.in_ok-token.ensures.size, was.size);
+      counted = c.in_ok-token.ensures.counted ∙ was.counted;
+    }
+
+pub scan-loop-scan-preserved : goal.scan-loop-scan-preserved
+scan-loop-scan-preserved g t c =
+    let was = c.loop-scan.invariant in
+    let stands = rw c.names.ensures at (rw c.in-Ok-Raw.field-0-is at c.in-Ok-Raw.ensures.stands) in
+    let exact = rw c.names.ensures at (rw c.in-Ok-Raw.field-0-is at c.in-Ok-Raw.ensures.exact) in
+    record {
+      turned = turned_on _ c.args.want c.loop-scan.raw true _ _ _ _ _ c.in_ok-token.token was.turned (λ told. c.in_ok-token.ensures.exact (was.goes.told told))
+          stands exact;
+      goes = goes_then c.args.mouth.now c.loop-scan.mouth c.take_wanted.new.mouth (g.F.Files.state c.args.files.now) (g.F.Files.state c.loop-scan.files) (g.F.Files.state c.take_wanted.new.files) was.goes c.take_wanted.ensures.goes;
+      readable = c.in_ok-token.ensures.readable;
+      fit = c.take_wanted.ensures.fit;
+      size = omega (arith, c.in_ok-token.ensures.size, was.size);
+      counted = c.in_ok-token.ensures.counted ∙ was.counted;
+    }
+
+pub scan-returns-in-Err-Kind-clause-exact : goal.scan-returns-in-Err-Kind-clause-exact
+scan-returns-in-Err-Kind-clause-exact g t c = λ told.
+    let was = c.loop-scan.invariant in
+    let exact = rw c.names.ensures at (rw c.in-Err-Kind.field-0-is at c.in-Err-Kind.ensures.exact) in
+    rw c.in-Err-Kind.field-0-is (turned_bad _ c.args.want c.loop-scan.raw _ _ _ _ c.in_ok-token.token _ was.turned (λ told. c.in_ok-token.ensures.exact (was.goes.told told)) exact told)
+
+pub scan-returns-in-Ok-Done-clause-exact : goal.scan-returns-in-Ok-Done-clause-exact
+scan-returns-in-Ok-Done-clause-exact g t c = λ told.
+    let was = c.loop-scan.invariant in
+    let exact = rw c.names.ensures at (rw c.in-Ok-Done.field-0-is at c.in-Ok-Done.ensures.exact) in
+    rw (turned_done _ c.args.want c.loop-scan.raw _ _ _ _ c.in_ok-token.token _ _ was.turned (λ told. c.in_ok-token.ensures.exact (was.goes.told told)) exact told)
+    (c.give_back.ensures.exact (g.F.Files.state c.take_wanted.new.files) c.take_wanted.new.env)
+
+pub scan-loop-scan-init : goal.scan-loop-scan-init
+scan-loop-scan-init g t c = record {
+  turned = turned_first _ c.args.want _ _ c.new-scan.ensures.stands;
+  goes = goes_itself c.args.mouth.now (g.F.Files.state c.args.files.now) c.requires.opened;
+  readable = c.requires.readable;
+  fit = c.requires.fit;
+  size = omega arith;
+  counted = refl;
+}
