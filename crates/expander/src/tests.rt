@@ -181,7 +181,14 @@ const ROWS: [Row; 7] = [
     },
 ];
 
-const SCANS: [Row; 6] = [
+const SCANS: [Row; 7] = [
+    Row {
+        source: b"\\kuten 1026 \\jis 1 q",
+        budget: 2,
+        tokens: b"=4=2=1=4=6",
+        fault: GulletFault::CodeRange,
+        line: 1,
+    },
     Row {
         source: b"\\number-007 x\n",
         budget: 1,
