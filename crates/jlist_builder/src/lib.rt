@@ -6,8 +6,6 @@ mod character;
 mod gaps;
 mod puts;
 mod space;
-#[cfg(test)]
-mod tests;
 
 pub use builder::HBuilder;
 pub use character::Kinsoku;

@@ -4,12 +4,8 @@
 mod codes;
 mod look;
 mod nodes;
-#[cfg(test)]
-mod plain;
 mod skip;
 mod spacing;
-#[cfg(test)]
-mod tests;
 mod walk;
 
 pub use codes::EndCodes;

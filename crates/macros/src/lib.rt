@@ -13,8 +13,6 @@ mod parts;
 mod prefix;
 mod same;
 mod stripping;
-#[cfg(test)]
-mod tests;
 mod undelimited;
 
 pub use body::Body;

@@ -11,8 +11,6 @@ mod mouth;
 mod next;
 mod place;
 mod stack;
-#[cfg(test)]
-mod tests;
 
 pub use allowed::Allowed;
 pub use fault::MouthFault;

@@ -13,8 +13,6 @@ mod naming;
 mod passing;
 mod run;
 mod skipping;
-#[cfg(test)]
-mod tests;
 mod text;
 mod token;
 

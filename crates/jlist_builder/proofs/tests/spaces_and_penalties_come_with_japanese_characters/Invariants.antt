@@ -1,4 +1,0 @@
-use Rattle.jlist_builder.proofs.tests.spaces_and_penalties_come_with_japanese_characters.Given as goal
-
-abbrev pub ghosts-wrong : goal.ghosts-wrong
-ghosts-wrong g a = record { name = a.blank.name; parts = a.blank.parts }

@@ -1,5 +1,0 @@
-use Rattle.mouth.specs.Keeping.{KeepsFiles}
-use Rattle.mouth.proofs.tests.begin_all.Given as goal
-
-abbrev pub invariant-loop-count : goal.invariant-loop-count
-invariant-loop-count l = KeepsFiles l.fn.mouth l.mouth

@@ -1,8 +1,0 @@
-use Rattle.mouth.specs.Keeping.{AreOpen, IsReadable}
-use Rattle.mouth.proofs.tests.run.Given as goal
-
-abbrev pub invariant-loop-next : goal.invariant-loop-next
-invariant-loop-next g l = record {
-  opened : AreOpen l.mouth (g.F.Files.state l.files);
-  readable : IsReadable l.mouth;
-}
