@@ -1,5 +1,5 @@
 -- The totals of a line are differences of those that the code keeps.
-use Rattle.std.proofs.Common.{◌≡◌, ℕ, zero, suc, ◌+◌, ◌-◌, ◌^◌, ◌<◌, ◌≤◌, true, false, cond, List, [], ◌∷◌, ◌++◌, length, get_or, drop, take, arith, refl, subst, sym, ◌∙◌, ap, ℤ, pos, ◌+ℤ◌, ◌-ℤ◌}
+use Rattle.std.proofs.Common.{◌≡◌, ℕ, zero, suc, ◌+◌, ◌-◌, ◌*◌, ◌^◌, ◌<◌, ◌≤◌, true, false, cond, List, [], ◌∷◌, ◌++◌, length, get_or, drop, take, arith, refl, subst, sym, ◌∙◌, ap, ℤ, pos, ◌+ℤ◌, ◌-ℤ◌}
 use Rattle.std.specs.List.{filter, range_with_len}
 use Rattle.std.proofs.lemmas.Int.{ints}
 use Rattle.std.proofs.lemmas.List.{take-append-drop, get_or-map, length-map}
@@ -21,7 +21,7 @@ use Rattle.line_break.specs.Best.{last_break}
 use Rattle.line_break.specs.Lines.{is_dropped, is_legal, legal_breaks, place_in, place_after_start, without_dropped, kept_between, kept_to, skip, with_skips, line, penalty, penalty_at, penalty_of, totals, with_extra}
 use Rattle.line_break.specs.Ready.{pass_of, IsPrepared, IsBeforeEnd, AreSoundItems}
 use Rattle.line_break.specs.Running.{AreNear, none, plus, minus, break_at, kept_place, all_breaks}
-use Rattle.line_break.proofs.Running.{from_near, after_near, totals_near, nearer, front_is}
+use Rattle.line_break.proofs.Running.{from_near, after_near, totals_within, nearer, wider, front_is}
 use Rattle.line_break.proofs.Step.{all_range, all_filter}
 use Rattle.std.proofs.lemmas.List.Elements.{All-from_recursion}
 use Rattle.ts_geometry.specs.declared.direction.Dir.TheVariants.{Yoko}
@@ -227,8 +227,8 @@ line_none l s b d q lt h k =
 -- ---- near totals
 
 pub record IsNearBreak (b : Break) : Type 0 where
-  pub from : AreNear (2 ^ 53) b.from
-  pub after : AreNear (2 ^ 53) b.after
+  pub from : AreNear (11 * 2 ^ 48) b.from
+  pub after : AreNear (11 * 2 ^ 48) b.after
 
 all_near : (xs : List Item) (b : ℕ) (d : Break) → length xs ≤ 700000 → AreSoundItems xs → b < length (all_breaks xs) → IsNearBreak (get_or (all_breaks xs) b d)
 all_near xs zero d l s h = record { from = from_near xs 0 l s; after = from_near xs 0 l s }
@@ -237,7 +237,7 @@ all_near xs (suc b) d l s h = subst IsNearBreak (sym (break_is xs b d h)) (recor
 pub break_near : (l : PassLines) (b : ℕ) (d : Break) → IsPrepared l → b ≤ last_break (pass_of l) → IsNearBreak (get_or l.breaks.now b d)
 break_near l b d q h = subst (λ (bs : List Break). IsNearBreak (get_or bs b d)) (sym q.breaks) (all_near l.items.now b d q.few q.sound (inside_all l b h))
 
-with_more : (extra : ℤ) (t : Totals) → IsWithin max_dimen extra → AreNear (2 ^ 53) t → AreNear (2 ^ 54) (with_extra extra t)
+with_more : (extra : ℤ) (t : Totals) → IsWithin max_dimen extra → AreNear (2 * 2 ^ 32) t → AreNear (2 ^ 48) (with_extra extra t)
 with_more extra t d h = record {
   width = up _ h.width;
   stretch = (omega (arith, ints, d, h.stretch), omega (arith, ints, d, h.stretch));
@@ -247,66 +247,58 @@ with_more extra t d h = record {
   shrink = up _ h.shrink;
 }
   where
-    up : (z : ℤ) → IsWithin (2 ^ 53) z → IsWithin (2 ^ 54) z
+    up : (z : ℤ) → IsWithin (2 * 2 ^ 32) z → IsWithin (2 ^ 48) z
     up z w = (omega (arith, ints), omega (arith, ints))
 
-pub background_near : (l : PassLines) → IsPrepared l → AreNear (2 ^ 54) l.background
+pub background_near : (l : PassLines) → IsPrepared l → AreNear (2 ^ 48) l.background
 background_near l q =
     let skips = skip l.shape.left ∷ skip l.shape.right ∷ [] in
-    let near = totals_near Yoko skips (omega arith) (q.shape_sound.left, (q.shape_sound.right, tt)) in
-    subst (λ (t : Totals). AreNear (2 ^ 54) t) (sym q.background) (with_more l.extra.0 (totals skips) q.extra near)
-
-up_54 : (m : ℕ) (t : Totals) → 2 ^ 54 ≤ m → AreNear (2 ^ 54) t → AreNear m t
-up_54 m t l h = record { width = by _ h.width; stretch = by _ h.stretch; fil = by _ h.fil; fill = by _ h.fill; filll = by _ h.filll; shrink = by _ h.shrink }
-  where
-    by : (x : ℤ) → IsWithin (2 ^ 54) x → IsWithin m x
-    by x u = (omega (arith, ints, l, u), omega (arith, ints, l, u))
-
-up_53 : (t : Totals) → AreNear (2 ^ 53) t → AreNear (2 ^ 60) t
-up_53 t h = nearer t h
+    let near = totals_within Yoko skips (q.shape_sound.left, (q.shape_sound.right, tt)) in
+    subst (λ (t : Totals). AreNear (2 ^ 48) t) (sym q.background) (with_more l.extra.0 (totals skips) q.extra near)
 
 pub from_60 : (l : PassLines) (b : ℕ) (d : Break) → IsPrepared l → b ≤ last_break (pass_of l) → AreNear (2 ^ 60) (get_or l.breaks.now b d).from
-from_60 l b d q h = up_53 (get_or l.breaks.now b d).from (break_near l b d q h).from
+from_60 l b d q h = nearer (get_or l.breaks.now b d).from (break_near l b d q h).from
 
 pub after_60 : (l : PassLines) (b : ℕ) (d : Break) → IsPrepared l → b ≤ last_break (pass_of l) → AreNear (2 ^ 60) (get_or l.breaks.now b d).after
-after_60 l b d q h = up_53 (get_or l.breaks.now b d).after (break_near l b d q h).after
+after_60 l b d q h = nearer (get_or l.breaks.now b d).after (break_near l b d q h).after
 
 pub background_60 : (l : PassLines) → IsPrepared l → AreNear (2 ^ 60) l.background
-background_60 l q = up_54 (2 ^ 60) l.background (omega arith) (background_near l q)
+background_60 l q = wider (2 ^ 48) (2 ^ 60) l.background (omega arith) (background_near l q)
 
 pub background_58 : (l : PassLines) → IsPrepared l → AreNear (2 ^ 58) l.background
-background_58 l q = up_54 (2 ^ 58) l.background (omega arith) (background_near l q)
+background_58 l q = wider (2 ^ 48) (2 ^ 58) l.background (omega arith) (background_near l q)
 
-before_end_near : (l : PassLines) (b : ℕ) (d : Break) → IsPrepared l → b ≤ last_break (pass_of l) → AreNear (2 ^ 55) (minus l.background (get_or l.breaks.now b d).from)
+before_end_near : (l : PassLines) (b : ℕ) (d : Break) → IsPrepared l → b ≤ last_break (pass_of l) → AreNear (12 * 2 ^ 48) (minus l.background (get_or l.breaks.now b d).from)
 before_end_near l b d q h = record { width = by _ _ near.width end.width; stretch = by _ _ near.stretch end.stretch; fil = by _ _ near.fil end.fil; fill = by _ _ near.fill end.fill; filll = by _ _ near.filll end.filll; shrink = by _ _ near.shrink end.shrink }
   where
-    near : AreNear (2 ^ 54) l.background
+    near : AreNear (2 ^ 48) l.background
     near = background_near l q
 
-    end : AreNear (2 ^ 53) (get_or l.breaks.now b d).from
+    end : AreNear (11 * 2 ^ 48) (get_or l.breaks.now b d).from
     end = (break_near l b d q h).from
 
-    by : (x y : ℤ) → IsWithin (2 ^ 54) x → IsWithin (2 ^ 53) y → IsWithin (2 ^ 55) (x -ℤ y)
+    by : (x y : ℤ) → IsWithin (2 ^ 48) x → IsWithin (11 * 2 ^ 48) y → IsWithin (12 * 2 ^ 48) (x -ℤ y)
     by x y u v = (omega (arith, ints, u, v), omega (arith, ints, u, v))
+
+before_near : (l : PassLines) (b : ℕ) (d : Break) (t : Totals) → IsPrepared l → b ≤ last_break (pass_of l) → IsBeforeEnd l b t → AreNear (12 * 2 ^ 48) t
+before_near l b d t q h e = subst (λ (u : Totals). AreNear (12 * 2 ^ 48) u) (sym (e d)) (before_end_near l b d q h)
 
 pub before_60 : (l : PassLines) (b : ℕ) (t : Totals) → IsPrepared l → b ≤ last_break (pass_of l) → IsBeforeEnd l b t → AreNear (2 ^ 60) t
-before_60 l b t q h e = let d = break_at [] 0 in subst (λ (u : Totals). AreNear (2 ^ 60) u) (sym (e d)) (nearer_55 _ (before_end_near l b d q h))
-  where
-    up : (x : ℤ) → IsWithin (2 ^ 55) x → IsWithin (2 ^ 60) x
-    up x u = (omega (arith, ints, u), omega (arith, ints, u))
+before_60 l b t q h e = wider (12 * 2 ^ 48) (2 ^ 60) t (omega arith) (before_near l b (break_at [] 0) t q h e)
 
-    nearer_55 : (u : Totals) → AreNear (2 ^ 55) u → AreNear (2 ^ 60) u
-    nearer_55 u w = record { width = up _ w.width; stretch = up _ w.stretch; fil = up _ w.fil; fill = up _ w.fill; filll = up _ w.filll; shrink = up _ w.shrink }
-
-pub line_58 : (l : PassLines) (s b : ℕ) (d : Break) (t u : Totals) → IsPrepared l → s ≤ last_break (pass_of l) → b ≤ last_break (pass_of l) → IsBeforeEnd l b t → u ≡ plus t (get_or l.breaks.now s d).after → AreNear (2 ^ 58) u
-line_58 l s b d t u q g h e f =
-    subst (λ (v : Totals). AreNear (2 ^ 58) v) (sym f) (both t (get_or l.breaks.now s d).after (subst (λ (v : Totals). AreNear (2 ^ 55) v) (sym (e d)) (before_end_near l b d q h)) (break_near l s d q g).after)
+-- so no multiple of a line by a ratio of badness passes 64 bits
+pub line_near : (l : PassLines) (s b : ℕ) (d : Break) (t u : Totals) → IsPrepared l → s ≤ last_break (pass_of l) → b ≤ last_break (pass_of l) → IsBeforeEnd l b t → u ≡ plus t (get_or l.breaks.now s d).after → AreNear (23 * 2 ^ 48) u
+line_near l s b d t u q g h e f =
+    subst (λ (v : Totals). AreNear (23 * 2 ^ 48) v) (sym f) (both t (get_or l.breaks.now s d).after (before_near l b d t q h e) (break_near l s d q g).after)
   where
-    by : (x y : ℤ) → IsWithin (2 ^ 55) x → IsWithin (2 ^ 53) y → IsWithin (2 ^ 58) (x +ℤ y)
+    by : (x y : ℤ) → IsWithin (12 * 2 ^ 48) x → IsWithin (11 * 2 ^ 48) y → IsWithin (23 * 2 ^ 48) (x +ℤ y)
     by x y u v = (omega (arith, ints, u, v), omega (arith, ints, u, v))
 
-    both : (v w : Totals) → AreNear (2 ^ 55) v → AreNear (2 ^ 53) w → AreNear (2 ^ 58) (plus v w)
+    both : (v w : Totals) → AreNear (12 * 2 ^ 48) v → AreNear (11 * 2 ^ 48) w → AreNear (23 * 2 ^ 48) (plus v w)
     both v w h k = record { width = by _ _ h.width k.width; stretch = by _ _ h.stretch k.stretch; fil = by _ _ h.fil k.fil; fill = by _ _ h.fill k.fill; filll = by _ _ h.filll k.filll; shrink = by _ _ h.shrink k.shrink }
+
+pub line_58 : (l : PassLines) (s b : ℕ) (d : Break) (t u : Totals) → IsPrepared l → s ≤ last_break (pass_of l) → b ≤ last_break (pass_of l) → IsBeforeEnd l b t → u ≡ plus t (get_or l.breaks.now s d).after → AreNear (2 ^ 58) u
+line_58 l s b d t u q g h e f = wider (23 * 2 ^ 48) (2 ^ 58) u (omega arith) (line_near l s b d t u q g h e f)
 
 turn : (a b c : ℤ) → (a -ℤ c) +ℤ b ≡ a +ℤ (b -ℤ c)
 turn a b c = omega (arith, ints)

@@ -45,24 +45,27 @@ parts_near set dir (x ∷ xs) s =
     let rest = parts_near set dir xs s.1 in
     (omega (arith, ints), omega (arith, ints))
 
-farther : (n : ℕ) (z : ℤ) → n ≤ 700000 → IsWithin (n * 2 ^ 32) z → IsWithin (2 ^ 53) z
-farther n z l h = (omega (arith, ints), omega (arith, ints))
-
-pub totals_near : (dir : Dir) (xs : List Item) → length xs ≤ 700000 → AreSound dir (tree_items xs) → AreNear (2 ^ 53) (totals xs)
-totals_near dir xs l s = record {
-  width = farther (length xs) _ l (extents_near dir xs s);
-  stretch = farther (length xs) _ l (parts_near (Stretch Normal (sp (pos 0)) (sp (pos 0))) dir xs s);
-  fil = farther (length xs) _ l (parts_near (Stretch Fil (sp (pos 0)) (sp (pos 0))) dir xs s);
-  fill = farther (length xs) _ l (parts_near (Stretch Fill (sp (pos 0)) (sp (pos 0))) dir xs s);
-  filll = farther (length xs) _ l (parts_near (Stretch Filll (sp (pos 0)) (sp (pos 0))) dir xs s);
-  shrink = farther (length xs) _ l (parts_near (Shrink Normal (sp (pos 0)) (sp (pos 0))) dir xs s);
+pub totals_within : (dir : Dir) (xs : List Item) → AreSound dir (tree_items xs) → AreNear (length xs * 2 ^ 32) (totals xs)
+totals_within dir xs s = record {
+  width = extents_near dir xs s;
+  stretch = parts_near (Stretch Normal (sp (pos 0)) (sp (pos 0))) dir xs s;
+  fil = parts_near (Stretch Fil (sp (pos 0)) (sp (pos 0))) dir xs s;
+  fill = parts_near (Stretch Fill (sp (pos 0)) (sp (pos 0))) dir xs s;
+  filll = parts_near (Stretch Filll (sp (pos 0)) (sp (pos 0))) dir xs s;
+  shrink = parts_near (Shrink Normal (sp (pos 0)) (sp (pos 0))) dir xs s;
 }
 
-further : (z : ℤ) → IsWithin (2 ^ 53) z → IsWithin (2 ^ 60) z
-further z h = (omega (arith, ints), omega (arith, ints))
+pub wider : (m n : ℕ) (t : Totals) → m ≤ n → AreNear m t → AreNear n t
+wider m n t l h = record { width = by _ h.width; stretch = by _ h.stretch; fil = by _ h.fil; fill = by _ h.fill; filll = by _ h.filll; shrink = by _ h.shrink }
+  where
+    by : (z : ℤ) → IsWithin m z → IsWithin n z
+    by z u = (omega (arith, ints, l, u), omega (arith, ints, l, u))
 
-pub nearer : (t : _) → AreNear (2 ^ 53) t → AreNear (2 ^ 60) t
-nearer t h = record { width = further _ h.width; stretch = further _ h.stretch; fil = further _ h.fil; fill = further _ h.fill; filll = further _ h.filll; shrink = further _ h.shrink }
+pub totals_near : (dir : Dir) (xs : List Item) → length xs ≤ 700000 → AreSound dir (tree_items xs) → AreNear (11 * 2 ^ 48) (totals xs)
+totals_near dir xs l s = wider (length xs * 2 ^ 32) (11 * 2 ^ 48) (totals xs) (omega (arith, l)) (totals_within dir xs s)
+
+pub nearer : (t : Totals) → AreNear (11 * 2 ^ 48) t → AreNear (2 ^ 60) t
+nearer t h = wider (11 * 2 ^ 48) (2 ^ 60) t (omega arith) h
 
 pub drop_sound : (dir : Dir) (xs : List Item) (i : ℕ) → AreSound dir (tree_items xs) → AreSound dir (tree_items (drop i xs))
 drop_sound dir xs zero s = s
@@ -74,7 +77,7 @@ drop_short xs zero = omega arith
 drop_short [] (suc i) = omega arith
 drop_short (x ∷ xs) (suc i) = let h = drop_short xs i in omega (arith, h)
 
-pub from_near : (xs : List Item) (i : ℕ) → length xs ≤ 700000 → AreSoundItems xs → AreNear (2 ^ 53) (totals (drop i xs))
+pub from_near : (xs : List Item) (i : ℕ) → length xs ≤ 700000 → AreSoundItems xs → AreNear (11 * 2 ^ 48) (totals (drop i xs))
 from_near xs i l s = let h = drop_short xs i in totals_near s.0 (drop i xs) (omega (arith, h, l)) (drop_sound s.0 xs i s.1)
 
 kept_sound : (dir : Dir) (xs : List Item) → AreSound dir (tree_items xs) → AreSound dir (tree_items (without_dropped xs))
@@ -85,7 +88,7 @@ kept_short : (xs : List Item) → length (without_dropped xs) ≤ length xs
 kept_short [] = omega arith
 kept_short (x ∷ xs) = let h = kept_short xs in elim (is_dropped x) as (λ t. length (cond t (without_dropped xs) (x ∷ xs)) ≤ suc (length xs)) [ true ↦ omega (arith, h) | false ↦ omega arith ]
 
-pub after_near : (xs : List Item) (i : ℕ) → length xs ≤ 700000 → AreSoundItems xs → AreNear (2 ^ 53) (totals (without_dropped (drop i xs)))
+pub after_near : (xs : List Item) (i : ℕ) → length xs ≤ 700000 → AreSoundItems xs → AreNear (11 * 2 ^ 48) (totals (without_dropped (drop i xs)))
 after_near xs i l s =
     let h = drop_short xs i in
     let k = kept_short (drop i xs) in

@@ -1,6 +1,6 @@
 //! How a line fits.
 
-ghost use Rattle.std.specs.Prelude.{◌≡◌, ◌≤◌, ◌^◌, ◌*ℤ◌, ℤ, pos, ◌≤ℤ◌, int_le, int_lt};
+ghost use Rattle.std.specs.Prelude.{◌≡◌, ◌≤◌, ◌*◌, ◌^◌, ◌*ℤ◌, ℤ, pos, ◌≤ℤ◌, int_le, int_lt};
 ghost use Rattle.ts_geometry.specs.Numbers.{IsWithin, badness_of_ratio};
 ghost use Rattle.line_break.specs.Lines.{stretched, shrunk, stretches_without_end, weight_short, weight_long, weight_at};
 ghost use Rattle.line_break.specs.Loose.{is_past, IsLimit};
@@ -43,7 +43,8 @@ pub(crate) fn weight_at(hsize: Sp, totals: &Totals) -> Weight
 /// is finite.
 pub(crate) fn is_past(hsize: Sp, totals: &Totals, limit: u16) -> bool
     requires hsize { IsWithin (2 ^ 32) hsize.0 }
-    requires near { AreNear (2 ^ 58) totals.now }
+    requires near { AreNear (23 * 2 ^ 48) totals.now }
+    requires limit { limit ≤ 1291 }
     ensures { result ≡ is_past hsize.0 totals.now limit }
 {
     totals.width.0 < hsize.0
@@ -53,20 +54,21 @@ pub(crate) fn is_past(hsize: Sp, totals: &Totals, limit: u16) -> bool
 
 /// Returns whether a shortfall is at least so many 297ths of a stretch.
 fn is_ratio(short: Sp, stretch: Sp, limit: u16) -> bool
-    requires short { IsWithin (2 ^ 60) short.0 }
-    requires stretch { IsWithin (2 ^ 60) stretch.0 }
+    requires short { IsWithin (24 * 2 ^ 48) short.0 }
+    requires stretch { IsWithin (24 * 2 ^ 48) stretch.0 }
+    requires limit { limit ≤ 1291 }
     ensures { result ≡ int_le (pos limit *ℤ stretch.0) (pos 297 *ℤ short.0) }
 {
     times(limit, stretch.0) <= times(297, short.0)
 }
 
-/// Returns a multiple of a length. It is 128 bits wide, since a length is up to 2^60.
-fn times(n: u16, length: i64) -> i128
-    requires { IsWithin (2 ^ 60) length }
-    ensures value { result ≡ pos n *ℤ length }
-    ensures bound { IsWithin (2 ^ 120) result }
+/// Returns a multiple of a length. No line is so long that it passes 64 bits.
+fn times(n: u16, length: i64) -> i64
+    requires few { n ≤ 1291 }
+    requires near { IsWithin (24 * 2 ^ 48) length }
+    ensures { result ≡ pos n *ℤ length }
 {
-    i128::from(n) * i128::from(length)
+    i64::from(n) * length
 }
 
 fn weight_short(short: Sp, totals: &Totals) -> Weight

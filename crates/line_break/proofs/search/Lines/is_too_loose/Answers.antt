@@ -2,7 +2,7 @@ use Rattle.std.proofs.Common.{arith, ◌≤◌, ◌∙◌}
 use Rattle.line_break.specs.Best.{last_break}
 use Rattle.line_break.specs.Ready.{pass_of}
 use Rattle.line_break.proofs.Loose.{until_line, past_is_loose}
-use Rattle.line_break.proofs.Prepared.{before_60, after_60, line_58}
+use Rattle.line_break.proofs.Prepared.{before_60, after_60, line_near}
 use Rattle.line_break.proofs.search.Lines.is_too_loose.Goals as goal
 
 pub plus-requires-clause-near : goal.plus-requires-clause-near
@@ -16,7 +16,7 @@ is_past-requires-clause-near c =
     let in_ = c.requires.end.inside in
     let lt = c.requires.before in
     let low : c.args.s ≤ last_break (pass_of c.args.self.now) = omega (arith, lt, in_) in
-    line_58 c.args.self.now c.args.s c.args.end.now.at _ c.args.end.now.before c.plus.result c.requires.prepared low in_ c.requires.end.before c.plus.ensures
+    line_near c.args.self.now c.args.s c.args.end.now.at _ c.args.end.now.before c.plus.result c.requires.prepared low in_ c.requires.end.before c.plus.ensures
 
 pub returns-then-start-end : goal.returns-then-start-end
 returns-then-start-end c =
