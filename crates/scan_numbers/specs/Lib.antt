@@ -10,3 +10,5 @@ pub mod Keywords
 pub mod Amounts
 pub mod Dimensions
 pub mod Machines
+pub mod Bounds
+pub mod Ends

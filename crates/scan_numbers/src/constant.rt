@@ -2,6 +2,8 @@
 
 ghost use Rattle.std.specs.Prelude.{◌≡◌};
 ghost use Rattle.scan_numbers.specs.Tokens.{fed};
+ghost use Rattle.env_groups.specs.Bounds.{max_int};
+ghost use Rattle.scan_numbers.specs.Bounds.{IsDoneWithin};
 ghost use Rattle.scan_numbers.specs.Machines.{Follows, constant_left, same, FormIs};
 
 use crate::context::Context;
@@ -23,8 +25,8 @@ pub(crate) enum Constant {
     Digits(Radix, u32),
     /// The character after a backquote is wanted.
     Character,
-    /// An optional space is wanted.
-    Space(u32),
+    /// An optional space is wanted after the code of a character.
+    Space(u16),
 }
 
 impl Constant {
@@ -42,8 +44,9 @@ impl Constant {
         token: &Token,
         context: &Context<'_>,
     ) -> Result<Step<Constant, u32>, ScanFault>
-        ensures { Follows same constant_left (fed token.now context.now)
+        ensures follows { Follows same constant_left (fed token.now context.now)
             (constant_left self) result }
+        ensures within { IsDoneWithin max_int result }
     {
         match self {
             Constant::First(radix) => match digit(radix, token) {
@@ -59,7 +62,7 @@ impl Constant {
                 Some(code) => Ok(Step::Further(Constant::Space(code))),
                 None => Err(Kind(ScanKind::NoNumber)),
             },
-            Constant::Space(value) => Ok(Step::Done(value, is_space(token, context))),
+            Constant::Space(code) => Ok(Step::Done(u32::from(code), is_space(token, context))),
         }
     }
 }

@@ -19,7 +19,7 @@ use crate::fraction::Fraction;
 use crate::integer::Integer;
 use crate::letters::{First, first_of, second_of};
 use crate::measure::{Factor, Measure, Unit};
-use crate::number::Number;
+use crate::number::Length;
 use crate::quantity::{Quantity, Register, read};
 use crate::start::{Radix, Start, digit, is_letter, is_space, letter, start_of};
 use crate::step::Step;
@@ -123,7 +123,7 @@ fn finish(manner: Manner, order: Order, measure: Measure) -> Result<Amount, Scan
     if measure.size > GREATEST {
         Err(ScanKind::DimenRange)
     } else {
-        let size = Number::positive(measure.size as u32)
+        let size = Length::positive(measure.size as u32)
             .signed(measure.negative)
             .signed(manner.negative);
         Ok(Amount { size, order })

@@ -22,7 +22,7 @@ pub use context::Context;
 pub use dimen::{Dimen, Manner, from_quantity};
 pub use fault::{ScanFault, ScanKind};
 pub use integer::Integer;
-pub use number::Number;
+pub use number::{Length, Number};
 pub use quantity::{CodeKind, HeldGlue, Quantity, Register, read};
 pub use start::{Start, is_letter, is_space, letter, start_of};
 pub use step::{Step, not_taken};

@@ -1,9 +1,11 @@
 //! What registers, parameters, codes and boxes hold.
 
-ghost use Rattle.std.specs.Prelude.{◌≡◌};
+ghost use Rattle.std.specs.Prelude.{◌≡◌, IfOk};
+ghost use Rattle.ts_geometry.specs.Numbers.{IsWithin, max_dimen};
 ghost use Rattle.env_groups.specs.Bounds.{IsInt, HasSetDimens};
 ghost use Rattle.env_groups.specs.Environments.{code_at};
 ghost use Rattle.box_tree.specs.Bounds.{IsDimen};
+ghost use Rattle.scan_numbers.specs.Bounds.{HasDimens, IsBounded};
 ghost use Rattle.scan_numbers.specs.Quantities.{integer_of as the_integer_of};
 ghost use Rattle.scan_numbers.specs.Quantities.{is_negative as it_is_negative, held_glue};
 ghost use Rattle.scan_numbers.specs.Quantities.{int_held as the_int_held, dim_held as the_dim_held};
@@ -85,7 +87,8 @@ pub enum CodeKind {
 // An integer of a source.
 fn int(value: i64) -> i32
     requires { IsInt value }
-    ensures { result ≡ value }
+    ensures value { result ≡ value }
+    ensures within { IsInt result }
 {
     value as i32
 }
@@ -93,14 +96,16 @@ fn int(value: i64) -> i32
 // A dimension of a source.
 fn dimen(value: Sp) -> i32
     requires { IsDimen value }
-    ensures { result ≡ value.0 }
+    ensures value { result ≡ value.0 }
+    ensures within { IsWithin max_dimen result }
 {
     value.0 as i32
 }
 
 fn glue(glue: Glue) -> HeldGlue
     requires { HasSetDimens glue }
-    ensures { result ≡ held_glue glue }
+    ensures value { result ≡ held_glue glue }
+    ensures within { HasDimens result }
 {
     HeldGlue {
         width: dimen(glue.width),
@@ -113,7 +118,8 @@ fn glue(glue: Glue) -> HeldGlue
 
 /// What an integer parameter or a `\count` register holds.
 pub(crate) fn int_held(key: IntKey, context: &Context<'_>) -> Result<Quantity, ScanKind>
-    ensures { result ≡ the_int_held key context.now.env }
+    ensures value { result ≡ the_int_held key context.now.env }
+    ensures within { IfOk result IsBounded }
 {
     match context.env.get_int(key) {
         Ok(value) => Ok(Quantity::Integer(int(value))),
@@ -123,7 +129,8 @@ pub(crate) fn int_held(key: IntKey, context: &Context<'_>) -> Result<Quantity, S
 
 /// What a dimension parameter or a `\dimen` register holds.
 pub(crate) fn dim_held(key: DimKey, context: &Context<'_>) -> Result<Quantity, ScanKind>
-    ensures { result ≡ the_dim_held key context.now.env }
+    ensures value { result ≡ the_dim_held key context.now.env }
+    ensures within { IfOk result IsBounded }
 {
     match context.env.get_dim(key) {
         Ok(value) => Ok(Quantity::Dimen(dimen(value))),
@@ -133,7 +140,8 @@ pub(crate) fn dim_held(key: DimKey, context: &Context<'_>) -> Result<Quantity, S
 
 /// What a glue parameter or a `\skip` register holds.
 pub(crate) fn glue_held(key: GlueKey, context: &Context<'_>) -> Result<Quantity, ScanKind>
-    ensures { result ≡ the_glue_held key context.now.env }
+    ensures value { result ≡ the_glue_held key context.now.env }
+    ensures within { IfOk result IsBounded }
 {
     match context.env.get_glue(key) {
         Ok(value) => Ok(Quantity::Glue(glue(value))),
@@ -160,7 +168,8 @@ fn bounded(value: Sp) -> Sp
 
 // A dimension, brought within the greatest integer.
 fn narrow(value: Sp) -> i32
-    ensures { result ≡ narrowed value.0 }
+    ensures value { result ≡ narrowed value.0 }
+    ensures within { IsInt result }
 {
     if value.0 < -2_147_483_647 {
         -2_147_483_647
@@ -185,7 +194,8 @@ fn measures(shared: &SharedBox, dir: Dir) -> Measures
 }
 
 fn measure_of(side: Side, shared: &SharedBox, dir: Dir) -> i32
-    ensures { result ≡ the_measure_of side shared.now dir }
+    ensures value { result ≡ the_measure_of side shared.now dir }
+    ensures within { IsInt result }
 {
     let measures = measures(shared, dir);
     match side {
@@ -197,7 +207,8 @@ fn measure_of(side: Side, shared: &SharedBox, dir: Dir) -> i32
 
 // A measure of the box of a register.
 fn box_held(side: Side, number: u32, context: &Context<'_>) -> Result<Quantity, ScanKind>
-    ensures { result ≡ the_box_held side number context.now.env }
+    ensures value { result ≡ the_box_held side number context.now.env }
+    ensures within { IfOk result IsBounded }
 {
     match context.env.get_box(number) {
         Ok(Some(shared)) => {
@@ -236,13 +247,15 @@ fn code_key(kind: CodeKind, number: u32) -> Option<CodeKey>
 }
 
 fn code_value(key: CodeKey, context: &Context<'_>) -> i32
-    ensures { result ≡ code_at context.now.env key }
+    ensures value { result ≡ code_at context.now.env key }
+    ensures within { IsInt result }
 {
     context.env.get_code(key) as i32
 }
 
 fn code_held(kind: CodeKind, number: u32, context: &Context<'_>) -> Result<Quantity, ScanKind>
-    ensures { result ≡ the_code_held kind number context.now.env }
+    ensures value { result ≡ the_code_held kind number context.now.env }
+    ensures within { IfOk result IsBounded }
 {
     match code_key(kind, number) {
         Some(key) => Ok(Quantity::Integer(code_value(key, context))),
@@ -257,7 +270,8 @@ pub(crate) fn held(
     number: u32,
     context: &Context<'_>,
 ) -> Result<Quantity, ScanKind>
-    ensures { result ≡ the_held register number context.now.env }
+    ensures value { result ≡ the_held register number context.now.env }
+    ensures within { IfOk result IsBounded }
 {
     match register {
         Register::Count => int_held(IntKey::Register(number), context),
@@ -287,7 +301,8 @@ impl Register {
 /// `RegisterRange` or `CodeRange` exactly where the number has none.
 #[tactic(auto, unfolding(crate::specs::Quantities::reading))]
 pub fn read(register: Register, number: Number, context: &Context<'_>) -> Result<Quantity, ScanKind>
-    ensures { result ≡ reading register number.value context.now.env }
+    ensures value { result ≡ reading register number.value context.now.env }
+    ensures within { IfOk result IsBounded }
 {
     match u16::try_from(number.value()) {
         Ok(number) => held(register, u32::from(number), context),

@@ -1,6 +1,9 @@
 //! What a token can be in a number.
 
-ghost use Rattle.std.specs.Prelude.{◌≡◌, ◌+◌, ◌*◌, ◌<◌, min, IfSome, slice_get};
+ghost use Rattle.std.specs.Prelude.{◌≡◌, ◌+◌, ◌*◌, ◌<◌, min, IfOk, IfSome, slice_get};
+ghost use Rattle.jis_codes.specs.Spellings.{euc};
+ghost use Rattle.jis_codes.specs.Numbers.{number_of};
+ghost use Rattle.scan_numbers.specs.Bounds.{BeginsBounded, IsBounded};
 ghost use Rattle.scan_numbers.specs.Keywords.{is_letter as it_is_letter};
 ghost use Rattle.scan_numbers.specs.Tokens.{start as the_start, digit as the_digit};
 ghost use Rattle.scan_numbers.specs.Tokens.{base as the_base, character as the_character};
@@ -17,7 +20,7 @@ use crate::fault::ScanKind;
 use crate::primitive::{Place, place_of};
 use crate::quantity::{Quantity, Register, dim_held, glue_held, held, int_held};
 use env_groups::{DimKey, GlueKey, IntKey, Meaning};
-use jis_codes::{Char, to_euc};
+use jis_codes::{Cell, Char, to_euc};
 use tok_lists::{NameNo, Names, Token};
 
 /// What a token can begin where a number or a dimension is wanted.
@@ -76,7 +79,8 @@ impl Radix {
 /// means. A name that isn't expanded acts as `\relax`.
 #[tactic(auto, unfolding(crate::specs::Tokens::start))]
 pub fn start_of(token: &Token, context: &Context<'_>) -> Start
-    ensures { result ≡ the_start token.now context.now }
+    ensures value { result ≡ the_start token.now context.now }
+    ensures within { BeginsBounded result }
 {
     match token {
         Token::Char(_, 10) => Start::Space,
@@ -94,7 +98,9 @@ pub fn start_of(token: &Token, context: &Context<'_>) -> Start
 
 // A whole internal quantity.
 fn whole_start(held: Result<Quantity, ScanKind>) -> Start
-    ensures { result ≡ the_whole_start held }
+    requires { IfOk held IsBounded }
+    ensures value { result ≡ the_whole_start held }
+    ensures within { BeginsBounded result }
 {
     match held {
         Ok(quantity) => Start::Internal(quantity),
@@ -103,7 +109,8 @@ fn whole_start(held: Result<Quantity, ScanKind>) -> Start
 }
 
 fn place_start(place: Place, context: &Context<'_>) -> Start
-    ensures { result ≡ the_place_start place context.now.env }
+    ensures value { result ≡ the_place_start place context.now.env }
+    ensures within { BeginsBounded result }
 {
     match place {
         Place::Int(param) => whole_start(int_held(IntKey::Param(param), context)),
@@ -115,7 +122,8 @@ fn place_start(place: Place, context: &Context<'_>) -> Start
 }
 
 fn letter_start(token: &Token) -> Start
-    ensures { result ≡ the_letter_start token.now }
+    ensures value { result ≡ the_letter_start token.now }
+    ensures within { BeginsBounded result }
 {
     match token {
         Token::Char(_, 10) => Start::Space,
@@ -126,14 +134,16 @@ fn letter_start(token: &Token) -> Start
 }
 
 fn code_start(code: u32) -> Start
-    ensures { result ≡ the_code_start code }
+    ensures value { result ≡ the_code_start code }
+    ensures within { BeginsBounded result }
 {
     Start::Internal(Quantity::Integer(code.min(2_147_483_647) as i32))
 }
 
 // What a name of this meaning can begin.
 fn meant(meaning: &Meaning, context: &Context<'_>) -> Start
-    ensures { result ≡ the_meant meaning.now context.now.env }
+    ensures value { result ≡ the_meant meaning.now context.now.env }
+    ensures within { BeginsBounded result }
 {
     match meaning {
         Meaning::Primitive(prim) => place_start(place_of(*prim), context),
@@ -173,18 +183,25 @@ pub(crate) fn digit(radix: Radix, token: &Token) -> Option<u8>
     }
 }
 
+// The internal code of a Japanese character.
+fn internal_code(cell: Cell) -> u16
+    ensures { result ≡ number_of euc cell }
+{
+    to_euc(cell) as u16
+}
+
 // The code of a character.
-fn char_code(character: Char) -> u32
+fn char_code(character: Char) -> u16
     ensures { result ≡ the_char_code character }
 {
     match character {
-        Char::One(code) => u32::from(code),
-        Char::Ja(cell) => to_euc(cell),
+        Char::One(code) => u16::from(code),
+        Char::Ja(cell) => internal_code(cell),
     }
 }
 
 // The code of the one character of these.
-fn only(chars: &[Char]) -> Option<u32>
+fn only(chars: &[Char]) -> Option<u16>
     ensures { result ≡ the_only chars.now }
 {
     match chars {
@@ -194,7 +211,7 @@ fn only(chars: &[Char]) -> Option<u32>
 }
 
 // The code of the one character of a name.
-fn spelt(name: NameNo, names: &Names) -> Option<u32>
+fn spelt(name: NameNo, names: &Names) -> Option<u16>
     ensures { result ≡ the_spelt (slice_get names.now name.0) }
 {
     if (name.0 as usize) < names.len() {
@@ -206,12 +223,12 @@ fn spelt(name: NameNo, names: &Names) -> Option<u32>
 
 /// The code of a character, or of a name of one character.
 #[tactic(auto, unfolding(crate::specs::Tokens::character))]
-pub(crate) fn character(token: &Token, context: &Context<'_>) -> Option<u32>
+pub(crate) fn character(token: &Token, context: &Context<'_>) -> Option<u16>
     ensures { result ≡ the_character token.now context.now }
 {
     match token {
-        Token::Char(code, _) => Some(u32::from(*code)),
-        Token::Ja(cell) => Some(to_euc(*cell)),
+        Token::Char(code, _) => Some(u16::from(*code)),
+        Token::Ja(cell) => Some(internal_code(*cell)),
         Token::Name(name) | Token::Kept(name) => spelt(*name, context.names),
         Token::Param(_) => None,
     }

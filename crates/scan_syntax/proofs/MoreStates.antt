@@ -20,7 +20,7 @@ use Rattle.scan_syntax.specs.Relations.{equals, is_equals}
 use Rattle.scan_syntax.specs.FileNames.{file_name}
 use Rattle.scan_syntax.specs.Naming.{naming_left, same_name}
 use Rattle.scan_syntax.specs.Internals.{internal}
-use Rattle.scan_syntax.specs.Internalizing.{internal_left, same_value}
+use Rattle.scan_syntax.specs.Internalizing.{internal_left, found_value}
 use Rattle.scan_syntax.specs.Scans.{grammar, IsOpen}
 use Rattle.scan_syntax.specs.States.{state_left, reads, Moves}
 use Rattle.scan_syntax.proofs.FileNames.{naming_needs}
@@ -99,7 +99,7 @@ internal_bad : (i : Internal) (kind : ScanKind) (x : FedToken) (rest : List FedT
 unfolding state_left
 internal_bad i kind x rest step = step
 
-pub internal_fault : (i : Internal) (x : FedToken) (fault : ScanFault) → Follows same_value internal_left x (internal_left i) (Err fault) → Moves x (state_left (states.Internal i)) (Err fault)
+pub internal_fault : (i : Internal) (x : FedToken) (fault : ScanFault) → Follows found_value internal_left x (internal_left i) (Err fault) → Moves x (state_left (states.Internal i)) (Err fault)
 internal_fault i x (Kind kind) follows = λ rest. internal_bad i kind x rest (follows rest)
 internal_fault i x NoMemory follows = tt
 

@@ -9,7 +9,7 @@ use Rattle.scan_syntax.specs.Values.{glue_value, size_value}
 use Rattle.scan_syntax.specs.BoxSizes.{box_size}
 use Rattle.scan_numbers.specs.Contexts.{Context}
 use Rattle.tok_lists.specs.declared.token.Token.{Token}
-use Rattle.scan_numbers.specs.declared.number.Number.{Number}
+use Rattle.scan_numbers.specs.declared.number.Length.{Length}
 use Rattle.scan_numbers.specs.declared.amount.Amount.{Amount}
 use Rattle.scan_numbers.specs.Amounts.{Amount as TheAmount}
 use Rattle.scan_numbers.specs.declared.quantity.Quantity.{Quantity}
@@ -48,29 +48,29 @@ use Rattle.scan_syntax.proofs.Attempts.{keyword_needs}
 
 -- ---- after the stretch
 
-pub minus_on : (w : Number) (s : Amount) (k j : Keyword) (x : FedToken) (rest : List FedToken) → keyword_left k (x ∷ rest) ≡ keyword_left j rest
+pub minus_on : (w : Length) (s : Amount) (k j : Keyword) (x : FedToken) (rest : List FedToken) → keyword_left k (x ∷ rest) ≡ keyword_left j rest
     → late_left (lates.Minus w s k) (x ∷ rest) ≡ late_left (lates.Minus w s j) rest
 unfolding late_left
 minus_on w s k j x rest step = rw step refl
 
-pub minus_there : (w : Number) (s : Amount) (k : Keyword) (d : Dimen) (x : FedToken) (rest : List FedToken) → keyword_left k (x ∷ rest) ≡ Got true x.context rest
+pub minus_there : (w : Length) (s : Amount) (k : Keyword) (d : Dimen) (x : FedToken) (rest : List FedToken) → keyword_left k (x ∷ rest) ≡ Got true x.context rest
     → ((list : List FedToken) → dimen_left d list ≡ dimen true list)
     → late_left (lates.Minus w s k) (x ∷ rest) ≡ late_left (lates.Shrink w s d) rest
 unfolding late_left
 minus_there w s k d x rest step fresh = rw (step, fresh rest) refl
 
-pub minus_not : (w : Number) (s : Amount) (k : Keyword) (g : Glue) (back : List Token) (x : FedToken) (rest : List FedToken) → keyword_left k (x ∷ rest) ≡ Got false x.context (put_back x.context back ++ rest)
+pub minus_not : (w : Length) (s : Amount) (k : Keyword) (g : Glue) (back : List Token) (x : FedToken) (rest : List FedToken) → keyword_left k (x ∷ rest) ≡ Got false x.context (put_back x.context back ++ rest)
     → g ≡ glue_of w.value (amount_of s) nothing
     → late_left (lates.Minus w s k) (x ∷ rest) ≡ Got (values.Glue g) x.context (put_back x.context back ++ rest)
 unfolding late_left
 minus_not w s k g back x rest step is = rw (step, is) refl
 
-pub shrink_on : (w : Number) (s : Amount) (d e : Dimen) (x : FedToken) (rest : List FedToken) → dimen_left d (x ∷ rest) ≡ dimen_left e rest
+pub shrink_on : (w : Length) (s : Amount) (d e : Dimen) (x : FedToken) (rest : List FedToken) → dimen_left d (x ∷ rest) ≡ dimen_left e rest
     → late_left (lates.Shrink w s d) (x ∷ rest) ≡ late_left (lates.Shrink w s e) rest
 unfolding late_left
 shrink_on w s d e x rest step = rw step refl
 
-pub shrink_done : (w : Number) (s : Amount) (d : Dimen) (k : TheAmount) (taken : Bool) (g : Glue) (back : List Token) (token : Token) (context : Context) (rest : List FedToken)
+pub shrink_done : (w : Length) (s : Amount) (d : Dimen) (k : TheAmount) (taken : Bool) (g : Glue) (back : List Token) (token : Token) (context : Context) (rest : List FedToken)
     → dimen_left d (fed token context ∷ rest) ≡ whole k taken (fed token context) rest → back ≡ not_taken taken token → g ≡ glue_of w.value (amount_of s) k
     → late_left (lates.Shrink w s d) (fed token context ∷ rest) ≡ Got (values.Glue g) context (put_back context back ++ rest)
 unfolding late_left
@@ -82,15 +82,15 @@ keyword_never : (k : Keyword) (x : FedToken) (context : Context) (before : List 
 keyword_never k x context before (Kind kind) never = absurd never
 keyword_never k x context before NoMemory never = tt
 
-pub minus_fault : (w : Number) (s : Amount) (k : Keyword) (x : FedToken) (context : Context) (fault : ScanFault) → Attempts x (keyword_left k) (Err fault)
+pub minus_fault : (w : Length) (s : Amount) (k : Keyword) (x : FedToken) (context : Context) (fault : ScanFault) → Attempts x (keyword_left k) (Err fault)
     → GlueMoves late_left context (x ∷ []) (late_left (lates.Minus w s k)) (Err fault)
 minus_fault w s k x context fault follows = keyword_never k x context (late_left (lates.Minus w s k)) fault follows
 
-shrink_bad : (w : Number) (s : Amount) (d : Dimen) (kind : ScanKind) (x : FedToken) (rest : List FedToken) → dimen_left d (x ∷ rest) ≡ Bad kind → late_left (lates.Shrink w s d) (x ∷ rest) ≡ Bad kind
+shrink_bad : (w : Length) (s : Amount) (d : Dimen) (kind : ScanKind) (x : FedToken) (rest : List FedToken) → dimen_left d (x ∷ rest) ≡ Bad kind → late_left (lates.Shrink w s d) (x ∷ rest) ≡ Bad kind
 unfolding late_left
 shrink_bad w s d kind x rest step = rw step refl
 
-pub shrink_fault : (w : Number) (s : Amount) (d : Dimen) (x : FedToken) (context : Context) (fault : ScanFault) → Follows amount_of dimen_left x (dimen_left d) (Err fault)
+pub shrink_fault : (w : Length) (s : Amount) (d : Dimen) (x : FedToken) (context : Context) (fault : ScanFault) → Follows amount_of dimen_left x (dimen_left d) (Err fault)
     → GlueMoves late_left context (x ∷ []) (late_left (lates.Shrink w s d)) (Err fault)
 shrink_fault w s d x context (Kind kind) follows = λ rest. shrink_bad w s d kind x rest (follows rest)
 shrink_fault w s d x context NoMemory follows = tt
@@ -163,21 +163,21 @@ unfolding glue_left
 width_form g d true is form = rw (is, form) refl
 width_form g d false is form = rw (is, form) refl
 
-pub stretch_form : (g : Gluing) (w : Number) (d : Dimen) (b : Bool) → g ≡ gluings.Stretch w d → FormIs b (dimen_left d) → FormIs b (glue_left g)
+pub stretch_form : (g : Gluing) (w : Length) (d : Dimen) (b : Bool) → g ≡ gluings.Stretch w d → FormIs b (dimen_left d) → FormIs b (glue_left g)
 unfolding glue_left
 stretch_form g w d true is form = rw (is, form) refl
 stretch_form g w d false is form = rw (is, form) refl
 
-pub shrink_form : (g : Gluing) (w : Number) (s : Amount) (d : Dimen) (b : Bool) → g ≡ gluings.Late (lates.Shrink w s d) → FormIs b (dimen_left d) → FormIs b (glue_left g)
+pub shrink_form : (g : Gluing) (w : Length) (s : Amount) (d : Dimen) (b : Bool) → g ≡ gluings.Late (lates.Shrink w s d) → FormIs b (dimen_left d) → FormIs b (glue_left g)
 unfolding glue_left late_left
 shrink_form g w s d true is form = rw (is, form) refl
 shrink_form g w s d false is form = rw (is, form) refl
 
-pub plus_form : (g : Gluing) (w : Number) (k : Keyword) → g ≡ gluings.Plus w k → FormIs false (glue_left g)
+pub plus_form : (g : Gluing) (w : Length) (k : Keyword) → g ≡ gluings.Plus w k → FormIs false (glue_left g)
 unfolding glue_left
 plus_form g w k is = rw (is, keyword_needs k) refl
 
-pub minus_form : (g : Gluing) (w : Number) (s : Amount) (k : Keyword) → g ≡ gluings.Late (lates.Minus w s k) → FormIs false (glue_left g)
+pub minus_form : (g : Gluing) (w : Length) (s : Amount) (k : Keyword) → g ≡ gluings.Late (lates.Minus w s k) → FormIs false (glue_left g)
 unfolding glue_left late_left
 minus_form g w s k is = rw (is, keyword_needs k) refl
 
@@ -337,32 +337,32 @@ width_fault before x context NoMemory follows = tt
 
 -- ---- plus and minus
 
-pub plus_on : (w : Number) (k j : Keyword) (x : FedToken) (rest : List FedToken) → keyword_left k (x ∷ rest) ≡ keyword_left j rest
+pub plus_on : (w : Length) (k j : Keyword) (x : FedToken) (rest : List FedToken) → keyword_left k (x ∷ rest) ≡ keyword_left j rest
     → glue_left (gluings.Plus w k) (x ∷ rest) ≡ glue_left (gluings.Plus w j) rest
 unfolding glue_left
 plus_on w k j x rest step = rw step refl
 
-pub plus_there : (w : Number) (k : Keyword) (d : Dimen) (x : FedToken) (rest : List FedToken) → keyword_left k (x ∷ rest) ≡ Got true x.context rest
+pub plus_there : (w : Length) (k : Keyword) (d : Dimen) (x : FedToken) (rest : List FedToken) → keyword_left k (x ∷ rest) ≡ Got true x.context rest
     → ((list : List FedToken) → dimen_left d list ≡ dimen true list)
     → glue_left (gluings.Plus w k) (x ∷ rest) ≡ glue_left (gluings.Stretch w d) rest
 unfolding glue_left
 plus_there w k d x rest step fresh = rw (step, fresh rest) refl
 
-pub plus_not : (w : Number) (z : Amount) (k j : Keyword) (back : List Token) (x : FedToken) (rest : List FedToken) → keyword_left k (x ∷ rest) ≡ Got false x.context (put_back x.context back ++ rest)
+pub plus_not : (w : Length) (z : Amount) (k j : Keyword) (back : List Token) (x : FedToken) (rest : List FedToken) → keyword_left k (x ∷ rest) ≡ Got false x.context (put_back x.context back ++ rest)
     → amount_of z ≡ nothing → ((list : List FedToken) → keyword_left j list ≡ keyword (letters_of soughts.Minus) list)
     → glue_left (gluings.Plus w k) (x ∷ rest) ≡ late_left (lates.Minus w z j) (put_back x.context back ++ rest)
 unfolding glue_left late_left
 plus_not w z k j back x rest step none fresh = rw (step, none, fresh (put_back x.context back ++ rest)) refl
 
-pub stretch_on : (w : Number) (d e : Dimen) (x : FedToken) (rest : List FedToken) → dimen_left d (x ∷ rest) ≡ dimen_left e rest → glue_left (gluings.Stretch w d) (x ∷ rest) ≡ glue_left (gluings.Stretch w e) rest
+pub stretch_on : (w : Length) (d e : Dimen) (x : FedToken) (rest : List FedToken) → dimen_left d (x ∷ rest) ≡ dimen_left e rest → glue_left (gluings.Stretch w d) (x ∷ rest) ≡ glue_left (gluings.Stretch w e) rest
 unfolding glue_left
 stretch_on w d e x rest step = rw step refl
 
-pub stretch_bad : (w : Number) (d : Dimen) (kind : ScanKind) (x : FedToken) (rest : List FedToken) → dimen_left d (x ∷ rest) ≡ Bad kind → glue_left (gluings.Stretch w d) (x ∷ rest) ≡ Bad kind
+pub stretch_bad : (w : Length) (d : Dimen) (kind : ScanKind) (x : FedToken) (rest : List FedToken) → dimen_left d (x ∷ rest) ≡ Bad kind → glue_left (gluings.Stretch w d) (x ∷ rest) ≡ Bad kind
 unfolding glue_left
 stretch_bad w d kind x rest step = rw step refl
 
-pub stretch_done : (w : Number) (s : Amount) (d : Dimen) (j : Keyword) (taken : Bool) (x : FedToken) (rest : List FedToken) → dimen_left d (x ∷ rest) ≡ whole (amount_of s) taken x rest
+pub stretch_done : (w : Length) (s : Amount) (d : Dimen) (j : Keyword) (taken : Bool) (x : FedToken) (rest : List FedToken) → dimen_left d (x ∷ rest) ≡ whole (amount_of s) taken x rest
     → ((list : List FedToken) → keyword_left j list ≡ keyword (letters_of soughts.Minus) list)
     → glue_left (gluings.Stretch w d) (x ∷ rest) ≡ late_left (lates.Minus w s j) (left_of taken (x ∷ rest))
 unfolding glue_left late_left

@@ -72,6 +72,6 @@ begins_width _ = true
 
 abbrev pub GlueMoves : {S : Type 0} → (S → List FedToken → Answer Value) → Context → List FedToken → (List FedToken → Answer Value) → Result (GlueMove S) ScanFault → Type 0
 GlueMoves left context given before (Ok (On state)) = (rest : List FedToken) → before (given ++ rest) ≡ left state rest
-GlueMoves left context given before (Ok (Done value back)) = (rest : List FedToken) → before (given ++ rest) ≡ Got value context (put_back context back.items ++ rest)
+GlueMoves left context given before (Ok (Done found back)) = (rest : List FedToken) → before (given ++ rest) ≡ Got found.value context (put_back context back.items ++ rest)
 GlueMoves left context given before (Err (Kind kind)) = (rest : List FedToken) → before (given ++ rest) ≡ Bad kind
 GlueMoves left context given before (Err NoMemory) = Unit {0}

@@ -4,6 +4,7 @@ use Rattle.scan_syntax.specs.declared.internal.Internal.{Internal}
 use Rattle.scan_syntax.specs.declared.internal.Internal.TheVariants as internals
 use Rattle.scan_numbers.specs.declared.start.Start.{Start}
 use Rattle.scan_numbers.specs.declared.start.Start.TheVariants as starts
+use Rattle.scan_syntax.specs.declared.found.Found.{Found}
 use Rattle.scan_syntax.specs.declared.want.Value.{Value}
 use Rattle.scan_numbers.specs.Tokens.{FedToken}
 use Rattle.scan_numbers.specs.Answers.{Answer, ◌>>=◌}
@@ -11,8 +12,8 @@ use Rattle.scan_numbers.specs.Integers.{register}
 use Rattle.scan_numbers.specs.Machines.{integer_left}
 use Rattle.scan_syntax.specs.Internals.{internal, whole_value, toks_register}
 
-abbrev pub same_value : Value → Value
-same_value value = value
+abbrev pub found_value : Found → Value
+found_value found = found.value
 
 unfoldable pub internal_left : Internal → List FedToken → Answer Value
 internal_left internals.Begin list = internal list

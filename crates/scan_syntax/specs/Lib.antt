@@ -11,3 +11,6 @@ pub mod FileNames
 pub mod Naming
 pub mod Scans
 pub mod States
+pub mod Bounds
+pub mod Props
+pub mod Laws

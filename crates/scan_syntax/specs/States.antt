@@ -36,6 +36,6 @@ reads s list = state_left s.state list
 
 abbrev pub Moves : FedToken → (List FedToken → Answer Value) → Result Move ScanFault → Type 0
 Moves x before (Ok (On state raw)) = ((rest : List FedToken) → before (x ∷ rest) ≡ state_left state rest) × FormIs raw (state_left state)
-Moves x before (Ok (Done value back)) = (rest : List FedToken) → before (x ∷ rest) ≡ Got value x.context (put_back x.context back.items ++ rest)
+Moves x before (Ok (Done found back)) = (rest : List FedToken) → before (x ∷ rest) ≡ Got found.value x.context (put_back x.context back.items ++ rest)
 Moves x before (Err (Kind kind)) = (rest : List FedToken) → before (x ∷ rest) ≡ Bad kind
 Moves x before (Err NoMemory) = Unit {0}

@@ -8,6 +8,11 @@ ghost use Rattle.scan_syntax.specs.Glues.{nothing as the_nothing};
 ghost use Rattle.scan_syntax.specs.Gluing.{glue_scanned, size_scanned, GlueMoves, late_left};
 ghost use Rattle.scan_syntax.specs.Gluing.{glue_left, quantity_glue_left, then_stretch, is_number};
 ghost use Rattle.scan_syntax.specs.Gluing.{begins_width};
+ghost use Rattle.ts_geometry.specs.Numbers.{IsWithin, max_dimen};
+ghost use Rattle.box_tree.specs.Bounds.{IsDimen};
+ghost use Rattle.env_groups.specs.Bounds.{HasSetDimens};
+ghost use Rattle.scan_numbers.specs.Bounds.{IsBounded, HasDimens};
+ghost use Rattle.scan_syntax.specs.Bounds.{IsSize};
 ghost use Rattle.scan_numbers.specs.Integers.{signed};
 ghost use Rattle.ts_geometry.specs.Directions.{sp};
 ghost use Rattle.scan_numbers.specs.Machines.{Follows, FormIs, amount_of, dimen_left};
@@ -15,12 +20,13 @@ ghost use Rattle.scan_numbers.specs.Answers.{Answer};
 ghost use Rattle.scan_numbers.specs.Contexts.{Context};
 ghost use Rattle.scan_syntax.specs.declared.want.Value.{Value};
 
+use crate::found::Found;
 use crate::keyword::{Attempt, Keyword};
 use crate::want::Value;
 use crate::word::Sought;
 use box_tree::BoxSize;
 use scan_numbers::{
-    Amount, Context, Dimen, HeldGlue, Integer, Manner, Number, Quantity, Register, ScanFault,
+    Amount, Context, Dimen, HeldGlue, Integer, Length, Manner, Quantity, Register, ScanFault,
     Start, Step, from_quantity, not_taken, read, start_of,
 };
 use std::alloc::Global;
@@ -31,8 +37,8 @@ use ts_geometry::{Glue, Order, Sp};
 #[derive(Drop)]
 pub(crate) enum Late {
     /// `minus` is looked for.
-    Minus(Number, Amount, Keyword),
-    Shrink(Number, Amount, Dimen),
+    Minus(Length, Amount, Keyword),
+    Shrink(Length, Amount, Dimen),
     /// `spread` is looked for.
     Spread(Keyword),
     SpreadSize(Dimen),
@@ -47,8 +53,8 @@ pub(crate) enum Gluing {
     Register(bool, Register, Integer),
     Width(Dimen),
     /// `plus` is looked for.
-    Plus(Number, Keyword),
-    Stretch(Number, Dimen),
+    Plus(Length, Keyword),
+    Stretch(Length, Dimen),
     /// `to` is looked for.
     To(Keyword),
     ToSize(Dimen),
@@ -60,11 +66,13 @@ pub(crate) enum Gluing {
 pub(crate) enum GlueMove<S> {
     On(S),
     /// The value, and the tokens to put back.
-    Done(Value, Vec<Token>),
+    Done(Found, Vec<Token>),
 }
 
-fn glue_of(width: Number, stretch: Amount, shrink: Amount) -> Glue
-    ensures { result ≡ the_glue_of width.value (amount_of stretch) (amount_of shrink) }
+#[tactic(auto, using(crate::proofs::Bounds::glue_within))]
+fn glue_of(width: Length, stretch: Amount, shrink: Amount) -> Glue
+    ensures value { result ≡ the_glue_of width.value (amount_of stretch) (amount_of shrink) }
+    ensures within { HasSetDimens result }
 {
     Glue {
         width: Sp(width.value()),
@@ -79,20 +87,25 @@ fn nothing() -> Amount
     ensures { amount_of result ≡ the_nothing }
 {
     Amount {
-        size: Number::positive(0),
+        size: Length::positive(0),
         order: Order::Normal,
     }
 }
 
 fn signed_number(negative: bool, value: i32) -> Sp
-    ensures { result ≡ sp (signed negative value) }
+    requires { IsWithin max_dimen value }
+    ensures value { result ≡ sp (signed negative value) }
+    ensures within { IsDimen result }
 {
-    Sp(Number::of(value).signed(negative).value())
+    Sp(Length::of(value).signed(negative).value())
 }
 
 /// Glue that is held, which a sign turns whole.
+#[tactic(auto, using(crate::proofs::Bounds::glue_within))]
 pub(crate) fn signed_glue(negative: bool, glue: HeldGlue) -> Glue
-    ensures { result ≡ the_signed_glue negative glue }
+    requires { HasDimens glue }
+    ensures value { result ≡ the_signed_glue negative glue }
+    ensures within { HasSetDimens result }
 {
     Glue {
         width: signed_number(negative, glue.width),
@@ -120,7 +133,8 @@ fn late_fed(
             Ok(Attempt::There) => Ok(GlueMove::On(Late::Shrink(width, stretch, Dimen::new(true)))),
             Ok(Attempt::Not(tokens)) => {
                 let glue = glue_of(width, stretch, nothing());
-                Ok(GlueMove::Done(Value::Glue(glue), tokens))
+                let value = Value::Glue(glue);
+                Ok(GlueMove::Done(Found { value }, tokens))
             }
             Err(fault) => Err(fault),
         },
@@ -129,7 +143,8 @@ fn late_fed(
             Ok(Step::Done(shrink, taken)) => match not_taken(alloc, taken, token) {
                 Ok(tokens) => {
                     let glue = glue_of(width, stretch, shrink);
-                    Ok(GlueMove::Done(Value::Glue(glue), tokens))
+                    let value = Value::Glue(glue);
+                    Ok(GlueMove::Done(Found { value }, tokens))
                 }
                 Err(_) => Err(ScanFault::NoMemory),
             },
@@ -139,7 +154,8 @@ fn late_fed(
             Ok(Attempt::On(keyword)) => Ok(GlueMove::On(Late::Spread(keyword))),
             Ok(Attempt::There) => Ok(GlueMove::On(Late::SpreadSize(Dimen::new(false)))),
             Ok(Attempt::Not(tokens)) => {
-                Ok(GlueMove::Done(Value::BoxSize(BoxSize::Natural), tokens))
+                let value = Value::BoxSize(BoxSize::Natural);
+                Ok(GlueMove::Done(Found { value }, tokens))
             }
             Err(fault) => Err(fault),
         },
@@ -162,7 +178,8 @@ fn spread_size_fed(
         Ok(Step::Done(size, taken)) => match not_taken(alloc, taken, token) {
             Ok(tokens) => {
                 let size = BoxSize::Spread(Sp(size.size.value()));
-                Ok(GlueMove::Done(Value::BoxSize(size), tokens))
+                let value = Value::BoxSize(size);
+                Ok(GlueMove::Done(Found { value }, tokens))
             }
             Err(_) => Err(ScanFault::NoMemory),
         },
@@ -185,9 +202,9 @@ fn late_fed_all(
         let token = tokens[k];
         match late_fed(late, &token, context, alloc) {
             Ok(GlueMove::On(next)) => late = next,
-            Ok(GlueMove::Done(value, mut back)) => {
+            Ok(GlueMove::Done(found, mut back)) => {
                 return match back.extend_from_slice(&tokens[k + 1..]) {
-                    Ok(()) => Ok(GlueMove::Done(value, back)),
+                    Ok(()) => Ok(GlueMove::Done(found, back)),
                     Err(_) => Err(ScanFault::NoMemory),
                 };
             }
@@ -264,7 +281,7 @@ fn as_glue(given: Result<GlueMove<Late>, ScanFault>) -> Result<GlueMove<Gluing>,
 {
     match given {
         Ok(GlueMove::On(late)) => Ok(GlueMove::On(Gluing::Late(late))),
-        Ok(GlueMove::Done(value, back)) => Ok(GlueMove::Done(value, back)),
+        Ok(GlueMove::Done(found, back)) => Ok(GlueMove::Done(found, back)),
         Err(fault) => Err(fault),
     }
 }
@@ -345,6 +362,7 @@ fn in_quantity(
     context: &Context<'_>,
     alloc: Global,
 ) -> Result<GlueMove<Gluing>, ScanFault>
+    requires { IsBounded quantity }
     ensures { GlueMoves glue_left context.now (fed token.now context.now ∷ [])
         (quantity_glue_left negative quantity context.now taken) result }
 {
@@ -352,7 +370,8 @@ fn in_quantity(
         Quantity::Glue(glue) => match not_taken(alloc, taken, token) {
             Ok(tokens) => {
                 let glue = signed_glue(negative, glue);
-                Ok(GlueMove::Done(Value::Glue(glue), tokens))
+                let value = Value::Glue(glue);
+                Ok(GlueMove::Done(Found { value }, tokens))
             }
             Err(_) => Err(ScanFault::NoMemory),
         },
@@ -423,7 +442,7 @@ fn width_fed(
 }
 
 fn in_plus(
-    width: Number,
+    width: Length,
     keyword: Keyword,
     token: &Token,
     context: &Context<'_>,
@@ -444,7 +463,7 @@ fn in_plus(
 }
 
 fn in_stretch(
-    width: Number,
+    width: Length,
     dimen: Dimen,
     token: &Token,
     context: &Context<'_>,
@@ -502,7 +521,8 @@ fn in_to_size(
         Ok(Step::Done(size, taken)) => match not_taken(alloc, taken, token) {
             Ok(tokens) => {
                 let size = BoxSize::To(Sp(size.size.value()));
-                Ok(GlueMove::Done(Value::BoxSize(size), tokens))
+                let value = Value::BoxSize(size);
+                Ok(GlueMove::Done(Found { value }, tokens))
             }
             Err(_) => Err(ScanFault::NoMemory),
         },

@@ -1,15 +1,18 @@
 //! Internal quantities, as `\the` takes them.
 
-ghost use Rattle.std.specs.Prelude.{◌≡◌, true};
+ghost use Rattle.std.specs.Prelude.{◌≡◌, true, IfOk};
+ghost use Rattle.scan_numbers.specs.Bounds.{IsBounded};
+ghost use Rattle.scan_syntax.specs.Bounds.{IsWithinBounds};
 ghost use Rattle.scan_numbers.specs.Tokens.{FedToken, fed, start as the_start};
 ghost use Rattle.scan_syntax.specs.Internals.{internal as an_internal};
 ghost use Rattle.scan_syntax.specs.Internals.{quantity_value as the_quantity_value};
 ghost use Rattle.scan_syntax.specs.Internals.{toks_held as the_toks_held, toks_reading};
 ghost use Rattle.scan_syntax.specs.Internals.{toks_start as the_toks_start};
 ghost use Rattle.scan_syntax.specs.Internals.{toks_meant as the_toks_meant, toks_named};
-ghost use Rattle.scan_syntax.specs.Internalizing.{internal_left, same_value, begins_none};
+ghost use Rattle.scan_syntax.specs.Internalizing.{internal_left, found_value, begins_none};
 ghost use Rattle.scan_numbers.specs.Machines.{Follows, FormIs};
 
+use crate::found::Found;
 use crate::gluing::signed_glue;
 use crate::want::Value;
 use env_groups::{Meaning, Prim, ToksKey, ToksParam};
@@ -40,7 +43,9 @@ pub(crate) enum Listed {
 }
 
 fn quantity_value(quantity: Quantity) -> Value
-    ensures { result ≡ the_quantity_value quantity }
+    requires { IsBounded quantity }
+    ensures value { result ≡ the_quantity_value quantity }
+    ensures within { IsWithinBounds result }
 {
     match quantity {
         Quantity::Integer(n) => Value::Integer(i64::from(n)),
@@ -51,7 +56,8 @@ fn quantity_value(quantity: Quantity) -> Value
 
 // What a parameter or a register of tokens holds.
 fn toks_held(key: ToksKey, context: &Context<'_>) -> Result<Value, ScanKind>
-    ensures { result ≡ the_toks_held key context.now.env }
+    ensures value { result ≡ the_toks_held key context.now.env }
+    ensures within { IfOk result IsWithinBounds }
 {
     match context.env().get_toks(key) {
         Ok(list) => Ok(Value::Toks(list)),
@@ -62,7 +68,8 @@ fn toks_held(key: ToksKey, context: &Context<'_>) -> Result<Value, ScanKind>
 // What the register of tokens of this number holds, where there is one.
 #[tactic(auto, unfolding(crate::specs::Internals::toks_reading))]
 fn toks_read(number: Number, context: &Context<'_>) -> Result<Value, ScanKind>
-    ensures { result ≡ toks_reading number.value context.now.env }
+    ensures value { result ≡ toks_reading number.value context.now.env }
+    ensures within { IfOk result IsWithinBounds }
 {
     match u16::try_from(number.value()) {
         Ok(number) => toks_held(ToksKey::Register(u32::from(number)), context),
@@ -124,8 +131,8 @@ impl Internal {
         token: &Token,
         context: &Context<'_>,
         alloc: Global,
-    ) -> Result<Step<Internal, Value>, ScanFault>
-        ensures { Follows same_value internal_left (fed token.now context.now)
+    ) -> Result<Step<Internal, Found>, ScanFault>
+        ensures { Follows found_value internal_left (fed token.now context.now)
             (internal_left self) result }
     {
         match self {
@@ -141,13 +148,13 @@ fn begin(
     token: &Token,
     context: &Context<'_>,
     alloc: Global,
-) -> Result<Step<Internal, Value>, ScanFault>
-    ensures { Follows same_value internal_left (fed token.now context.now)
+) -> Result<Step<Internal, Found>, ScanFault>
+    ensures { Follows found_value internal_left (fed token.now context.now)
         (internal_left Internal.Begin) result }
 {
     match list_begun(token, context) {
         Listed::Whole(key) => match toks_held(key, context) {
-            Ok(value) => Ok(Step::Done(value, true)),
+            Ok(value) => Ok(Step::Done(Found { value }, true)),
             Err(kind) => Err(ScanFault::Kind(kind)),
         },
         Listed::Register => Ok(Step::Further(Internal::Toks(Integer::new(alloc)))),
@@ -161,13 +168,16 @@ fn quantity_begun(
     token: &Token,
     context: &Context<'_>,
     alloc: Global,
-) -> Result<Step<Internal, Value>, ScanFault>
+) -> Result<Step<Internal, Found>, ScanFault>
     requires { the_toks_start token.now context.now ≡ Listed.Nothing }
-    ensures { Follows same_value internal_left (fed token.now context.now)
+    ensures { Follows found_value internal_left (fed token.now context.now)
         (internal_left Internal.Begin) result }
 {
     match start_of(token, context) {
-        Start::Internal(quantity) => Ok(Step::Done(quantity_value(quantity), true)),
+        Start::Internal(quantity) => {
+            let value = quantity_value(quantity);
+            Ok(Step::Done(Found { value }, true))
+        }
         Start::Register(register) => Ok(Step::Further(Internal::Register(
             register,
             Integer::new(alloc),
@@ -186,10 +196,10 @@ fn quantity_begun(
 }
 
 // A token that begins no internal quantity.
-fn begins_nothing(token: &Token, context: &Context<'_>) -> Result<Step<Internal, Value>, ScanFault>
+fn begins_nothing(token: &Token, context: &Context<'_>) -> Result<Step<Internal, Found>, ScanFault>
     requires listed { the_toks_start token.now context.now ≡ Listed.Nothing }
     requires none { begins_none (the_start token.now context.now) ≡ true }
-    ensures { Follows same_value internal_left (fed token.now context.now)
+    ensures { Follows found_value internal_left (fed token.now context.now)
         (internal_left Internal.Begin) result }
 {
     Err(ScanFault::Kind(ScanKind::NoNumber))
@@ -200,14 +210,17 @@ fn in_register(
     number: Integer,
     token: &Token,
     context: &Context<'_>,
-) -> Result<Step<Internal, Value>, ScanFault>
-    ensures { Follows same_value internal_left (fed token.now context.now)
+) -> Result<Step<Internal, Found>, ScanFault>
+    ensures { Follows found_value internal_left (fed token.now context.now)
         (internal_left (Internal.Register register number)) result }
 {
     match number.feed(token, context) {
         Ok(Step::Further(number)) => Ok(Step::Further(Internal::Register(register, number))),
         Ok(Step::Done(number, taken)) => match read(register, number, context) {
-            Ok(quantity) => Ok(Step::Done(quantity_value(quantity), taken)),
+            Ok(quantity) => {
+                let value = quantity_value(quantity);
+                Ok(Step::Done(Found { value }, taken))
+            }
             Err(kind) => Err(ScanFault::Kind(kind)),
         },
         Err(fault) => Err(fault),
@@ -218,14 +231,14 @@ fn in_toks(
     number: Integer,
     token: &Token,
     context: &Context<'_>,
-) -> Result<Step<Internal, Value>, ScanFault>
-    ensures { Follows same_value internal_left (fed token.now context.now)
+) -> Result<Step<Internal, Found>, ScanFault>
+    ensures { Follows found_value internal_left (fed token.now context.now)
         (internal_left (Internal.Toks number)) result }
 {
     match number.feed(token, context) {
         Ok(Step::Further(number)) => Ok(Step::Further(Internal::Toks(number))),
         Ok(Step::Done(number, taken)) => match toks_read(number, context) {
-            Ok(value) => Ok(Step::Done(value, taken)),
+            Ok(value) => Ok(Step::Done(Found { value }, taken)),
             Err(kind) => Err(ScanFault::Kind(kind)),
         },
         Err(fault) => Err(fault),

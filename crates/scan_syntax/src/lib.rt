@@ -3,9 +3,11 @@
 #![tactic(auto)]
 
 mod equals;
+mod found;
 mod gluing;
 mod internal;
 mod keyword;
+pub mod laws;
 mod naming;
 mod scan;
 mod state;

@@ -1,6 +1,7 @@
 //! Scans.
 
-ghost use Rattle.std.specs.Prelude.{◌≡◌, ◌∷◌, ◌++◌, [], List};
+ghost use Rattle.std.specs.Prelude.{◌≡◌, ◌∷◌, ◌++◌, [], List, IfOk};
+ghost use Rattle.scan_syntax.specs.Bounds.{IsFoundWithin};
 ghost use Rattle.scan_numbers.specs.Tokens.{FedToken, fed};
 ghost use Rattle.scan_numbers.specs.Contexts.{around};
 ghost use Rattle.scan_syntax.specs.States.{reads};
@@ -73,7 +74,9 @@ impl Scan {
     /// Takes a token of the form that was wanted last. Returns that a further token is wanted,
     /// and in which form, or the value, dimensions in scaled points, and the tokens to put back,
     /// in their order. `Kind` comes exactly where the tokens so far have that fault (The TeXbook,
-    /// chapter 24). After a fault, or the value, nothing more is to be fed.
+    /// chapter 24). After a fault, or the value, nothing more is to be fed. An integer, and the
+    /// measure of a box, is within 2^31 - 1 of 0; other dimensions, the numbers of glue and the
+    /// sizes of boxes are within 2^30 - 1 scaled points.
     pub fn feed(&mut self, token: Token, env: &Env, names: &Names) -> Result<Fed, ScanFault>
         requires { IsOpen (reads self.old) }
         ensures step { Steps (reads self.old) (fed token (around env.now names.now)) result
@@ -86,12 +89,15 @@ impl Scan {
             → Stands want before (reads self.old)
             → Says (around env.now names.now) result
             (grammar want (before ++ fed token (around env.now names.now) ∷ [])) }
+        ensures within { IfOk result IsFoundWithin }
     {
         self.advance(&token, &Context::new(env, names))
     }
 
     fn advance(&mut self, token: &Token, context: &Context<'_>) -> Result<Fed, ScanFault>
-        ensures { Steps (reads self.old) (fed token.now context.now) result (reads self.new) }
+        ensures steps { Steps (reads self.old) (fed token.now context.now) result
+            (reads self.new) }
+        ensures within { IfOk result IsFoundWithin }
     {
         match mem::replace(&mut self.state, State::Over).feed(token, context, self.alloc) {
             Ok(Move::On(state, true)) => {
@@ -102,7 +108,7 @@ impl Scan {
                 self.state = state;
                 Ok(Fed::Expanded)
             }
-            Ok(Move::Done(value, tokens)) => Ok(Fed::Done(value, Tokens::from(tokens))),
+            Ok(Move::Done(found, tokens)) => Ok(Fed::Done(found.value, Tokens::from(tokens))),
             Err(fault) => Err(fault),
         }
     }

@@ -6,6 +6,7 @@ ghost use Rattle.scan_numbers.specs.Machines.{left_of};
 ghost use Rattle.scan_syntax.specs.States.{state_left, Moves};
 
 use crate::equals::is_equals;
+use crate::found::Found;
 use crate::gluing::{GlueMove, Gluing};
 use crate::internal::Internal;
 use crate::keyword::{Attempt, Keyword};
@@ -36,7 +37,7 @@ pub(crate) enum Move {
     /// It goes on, and whether its next token is wanted raw.
     On(State, bool),
     /// It is at its end, with the tokens to put back.
-    Done(Value, Vec<Token>),
+    Done(Found, Vec<Token>),
 }
 
 impl State {
@@ -77,7 +78,10 @@ fn integer_fed(
             Ok(Move::On(State::Integer(integer), raw))
         }
         Ok(Step::Done(number, taken)) => match not_taken(alloc, taken, token) {
-            Ok(tokens) => Ok(Move::Done(Value::Integer(number.value()), tokens)),
+            Ok(tokens) => {
+                let value = Value::Integer(number.value());
+                Ok(Move::Done(Found { value }, tokens))
+            }
             Err(_) => Err(ScanFault::NoMemory),
         },
         Err(fault) => Err(fault),
@@ -99,7 +103,10 @@ fn dimen_fed(
             Ok(Move::On(State::Dimen(dimen), raw))
         }
         Ok(Step::Done(amount, taken)) => match not_taken(alloc, taken, token) {
-            Ok(tokens) => Ok(Move::Done(Value::Dimen(Sp(amount.size.value())), tokens)),
+            Ok(tokens) => {
+                let value = Value::Dimen(Sp(amount.size.value()));
+                Ok(Move::Done(Found { value }, tokens))
+            }
             Err(_) => Err(ScanFault::NoMemory),
         },
         Err(fault) => Err(fault),
@@ -117,8 +124,14 @@ fn keyword_fed(
 {
     match keyword.feed(token, context) {
         Ok(Attempt::On(keyword)) => Ok(Move::On(State::Keyword(keyword), false)),
-        Ok(Attempt::There) => Ok(Move::Done(Value::Keyword(true), Vec::new(alloc))),
-        Ok(Attempt::Not(tokens)) => Ok(Move::Done(Value::Keyword(false), tokens)),
+        Ok(Attempt::There) => {
+            let value = Value::Keyword(true);
+            Ok(Move::Done(Found { value }, Vec::new(alloc)))
+        }
+        Ok(Attempt::Not(tokens)) => {
+            let value = Value::Keyword(false);
+            Ok(Move::Done(Found { value }, tokens))
+        }
         Err(fault) => Err(fault),
     }
 }
@@ -137,7 +150,7 @@ fn glue_fed(
             let raw = glue.is_raw();
             Ok(Move::On(State::Glue(glue), raw))
         }
-        Ok(GlueMove::Done(value, tokens)) => Ok(Move::Done(value, tokens)),
+        Ok(GlueMove::Done(found, tokens)) => Ok(Move::Done(found, tokens)),
         Err(fault) => Err(fault),
     }
 }
@@ -150,7 +163,10 @@ fn equals_fed(token: &Token, context: &Context<'_>, alloc: Global) -> Result<Mov
         Ok(Move::On(State::Equals, false))
     } else {
         match not_taken(alloc, is_equals(token), token) {
-            Ok(tokens) => Ok(Move::Done(Value::Equals, tokens)),
+            Ok(tokens) => {
+                let value = Value::Equals;
+                Ok(Move::Done(Found { value }, tokens))
+            }
             Err(_) => Err(ScanFault::NoMemory),
         }
     }
@@ -168,7 +184,10 @@ fn naming_fed(
     match naming.feed(token, context, alloc) {
         Ok(Step::Further(naming)) => Ok(Move::On(State::Naming(naming), false)),
         Ok(Step::Done(name, taken)) => match not_taken(alloc, taken, token) {
-            Ok(tokens) => Ok(Move::Done(Value::FileName(name), tokens)),
+            Ok(tokens) => {
+                let value = Value::FileName(name);
+                Ok(Move::Done(Found { value }, tokens))
+            }
             Err(_) => Err(ScanFault::NoMemory),
         },
         Err(fault) => Err(fault),
@@ -189,8 +208,8 @@ fn internal_fed(
             let raw = internal.is_raw();
             Ok(Move::On(State::Internal(internal), raw))
         }
-        Ok(Step::Done(value, taken)) => match not_taken(alloc, taken, token) {
-            Ok(tokens) => Ok(Move::Done(value, tokens)),
+        Ok(Step::Done(found, taken)) => match not_taken(alloc, taken, token) {
+            Ok(tokens) => Ok(Move::Done(found, tokens)),
             Err(_) => Err(ScanFault::NoMemory),
         },
         Err(fault) => Err(fault),

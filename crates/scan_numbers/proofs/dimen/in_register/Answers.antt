@@ -14,12 +14,12 @@ pub returns-in-Ok : goal.returns-in-Ok
 returns-in-Ok c =
     let step = rw c.in-Ok-Done.field-0-is at c.in-Ok-Done.ensures in
     same_follows amount_of dimen_left (fed c.args.token.now c.args.context.now) (quantity_left c.args.manner c.in-Ok.quantity c.args.context.now c.in-Ok-Done.taken) (dimen_left (at c.args.manner (pieces.Register c.args.register c.args.number))) c.from_quantity.result
-    (λ rest. register_done _ _ _ _ _ _ _ _ rest (step rest) c.in-Ok.ensures) c.from_quantity.ensures
+    (λ rest. register_done _ _ _ _ _ _ _ _ rest (step rest) c.in-Ok.ensures.value) c.from_quantity.ensures
 
 pub returns-in-Err-read : goal.returns-in-Err-read
 returns-in-Err-read c =
     let step = rw c.in-Ok-Done.field-0-is at c.in-Ok-Done.ensures in
-    λ rest. register_range _ _ _ _ _ _ _ _ rest (step rest) c.in-Err-read.ensures
+    λ rest. register_range _ _ _ _ _ _ _ _ rest (step rest) c.in-Err-read.ensures.value
 
 pub returns-in-Err : goal.returns-in-Err
 returns-in-Err c = bad_passes value_of amount_of integer_left dimen_left (fed c.args.token.now c.args.context.now) (integer_left c.args.number) (dimen_left (at c.args.manner (pieces.Register c.args.register c.args.number))) c.in-Err.fault

@@ -14,18 +14,18 @@ pub returns-in-Ok-finish : goal.returns-in-Ok-finish
 returns-in-Ok-finish c =
     let step = rw c.in-Ok-Done.field-0-is at c.in-Ok-Done.ensures in
     let done = rw c.times_quantity.ensures at (c.in-Ok-finish.ensures c.args.context.now) in
-    λ rest. unit_register_done _ _ _ _ _ _ _ _ _ _ rest (step rest) c.in-Ok.ensures done
+    λ rest. unit_register_done _ _ _ _ _ _ _ _ _ _ rest (step rest) c.in-Ok.ensures.value done
 
 pub returns-in-Err-finish : goal.returns-in-Err-finish
 returns-in-Err-finish c =
     let step = rw c.in-Ok-Done.field-0-is at c.in-Ok-Done.ensures in
     let done = rw c.times_quantity.ensures at (c.in-Err-finish.ensures c.args.context.now) in
-    λ rest. unit_register_dimen_range _ _ _ _ _ _ _ _ _ _ rest (step rest) c.in-Ok.ensures done
+    λ rest. unit_register_dimen_range _ _ _ _ _ _ _ _ _ _ rest (step rest) c.in-Ok.ensures.value done
 
 pub returns-in-Err-read : goal.returns-in-Err-read
 returns-in-Err-read c =
     let step = rw c.in-Ok-Done.field-0-is at c.in-Ok-Done.ensures in
-    λ rest. unit_register_range _ _ _ _ _ _ _ _ _ rest (step rest) c.in-Err-read.ensures
+    λ rest. unit_register_range _ _ _ _ _ _ _ _ _ rest (step rest) c.in-Err-read.ensures.value
 
 pub returns-in-Err : goal.returns-in-Err
 returns-in-Err c = bad_passes value_of amount_of integer_left dimen_left (fed c.args.token.now c.args.context.now) (integer_left c.args.number) (dimen_left (at c.args.manner (pieces.UnitRegister c.args.factor c.args.register c.args.number))) c.in-Err.fault

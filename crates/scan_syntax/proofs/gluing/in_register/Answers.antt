@@ -15,12 +15,12 @@ returns-in-Ok c =
     let x = fed c.args.token.now c.args.context.now in
     let step = rw c.in-Ok-Done.field-0-is at c.in-Ok-Done.ensures in
     glue_same glue_left c.args.context.now (x ∷ []) (x ∷ []) (quantity_glue_left c.args.negative c.in-Ok.quantity c.args.context.now c.in-Ok-Done.taken) (glue_left (gluings.Register c.args.negative c.args.register c.args.number)) c.in_quantity.result
-    (λ rest. register_done _ _ _ _ _ _ _ _ rest (step rest) c.in-Ok.ensures) c.in_quantity.ensures
+    (λ rest. register_done _ _ _ _ _ _ _ _ rest (step rest) c.in-Ok.ensures.value) c.in_quantity.ensures
 
 pub returns-in-Err-read : goal.returns-in-Err-read
 returns-in-Err-read c =
     let step = rw c.in-Ok-Done.field-0-is at c.in-Ok-Done.ensures in
-    λ rest. register_range _ _ _ _ _ _ _ _ rest (step rest) c.in-Err-read.ensures
+    λ rest. register_range _ _ _ _ _ _ _ _ rest (step rest) c.in-Err-read.ensures.value
 
 pub returns-in-Err : goal.returns-in-Err
 returns-in-Err c = register_fault c.args.negative c.args.register c.args.number (fed c.args.token.now c.args.context.now) c.args.context.now c.in-Err.fault c.in-Err.ensures

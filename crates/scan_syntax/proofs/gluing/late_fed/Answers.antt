@@ -11,13 +11,13 @@ use Rattle.scan_syntax.proofs.gluing.late_fed.Goals as goal
 pub returns-in-Ok-Not : goal.returns-in-Ok-Not
 returns-in-Ok-Not c =
     let step = rw c.in-Ok-Not.field-0-is at c.in-Ok-Not.ensures in
-    let is = c.glue_of-glue.ensures ∙ ap (λ (a : Amount). glue_of c.in-Minus.width.value (amount_of c.in-Minus.stretch) a) c.nothing.ensures in
+    let is = c.glue_of-glue.ensures.value ∙ ap (λ (a : Amount). glue_of c.in-Minus.width.value (amount_of c.in-Minus.stretch) a) c.nothing.ensures in
     λ rest. rw c.in-Minus.is (minus_not _ _ _ _ _ _ rest (step rest) is)
 
 pub returns-in-Ok : goal.returns-in-Ok
 returns-in-Ok c =
     let step = rw c.in-Ok-Done.field-0-is at c.in-Ok-Done.ensures in
-    λ rest. rw c.in-Shrink.is (shrink_done _ _ _ _ _ _ _ _ _ rest (step rest) c.in-Ok.ensures c.glue_of-glue-in-Ok.ensures)
+    λ rest. rw c.in-Shrink.is (shrink_done _ _ _ _ _ _ _ _ _ rest (step rest) c.in-Ok.ensures c.glue_of-glue-in-Ok.ensures.value)
 
 pub returns-in-Err-feed : goal.returns-in-Err-feed
 returns-in-Err-feed c =

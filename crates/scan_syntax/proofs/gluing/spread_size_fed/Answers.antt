@@ -12,7 +12,7 @@ returns-in-Ok-Further c =
 pub returns-in-Ok : goal.returns-in-Ok
 returns-in-Ok c =
     let step = rw c.in-Ok-Done.field-0-is at c.in-Ok-Done.ensures in
-    let value = to_z-of_z w64 c.value.result (record { sfits = c.value.type_inv }) ∙ c.value.ensures in
+    let value = to_z-of_z w64 c.value.result (record { sfits = c.value.type_inv }) ∙ c.value.ensures.value in
     λ rest. rw value (spread_size_done _ _ _ _ _ _ rest (step rest) c.in-Ok.ensures)
 
 pub returns-in-Err : goal.returns-in-Err

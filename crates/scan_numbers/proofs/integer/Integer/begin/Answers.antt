@@ -12,14 +12,14 @@ pub returns-in-Digit : goal.returns-in-Digit
 returns-in-Digit c =
     let constant = record c.args.self { part = parts.Constant (constants.First radices.Decimal) } in
     same_follows value_of integer_left (fed c.args.token.now c.args.context.now) (integer_left constant) (integer_left c.args.self) c.fed.result
-    (λ rest. signs_digit c.args.self _ _ rest c.requires (sym c.in-Digit.ensures)) c.fed.ensures
+    (λ rest. signs_digit c.args.self _ _ rest c.requires (sym c.in-Digit.ensures.value)) c.fed.ensures
 
 pub returns-in-Ok : goal.returns-in-Ok
 returns-in-Ok c =
     let k = rw c.held.ensures at c.in-Ok.ensures in
-    λ rest. signs_internal c.args.self _ _ _ _ rest c.requires (sym c.in-Internal.ensures) k
+    λ rest. signs_internal c.args.self _ _ _ _ rest c.requires (sym c.in-Internal.ensures.value) k
 
 pub returns-in-Err : goal.returns-in-Err
 returns-in-Err c =
     let k = rw c.held.ensures at c.in-Err.ensures in
-    λ rest. signs_internal_bad c.args.self _ _ _ _ rest c.requires (sym c.in-Internal.ensures) k
+    λ rest. signs_internal_bad c.args.self _ _ _ _ rest c.requires (sym c.in-Internal.ensures.value) k
