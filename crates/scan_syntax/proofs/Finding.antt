@@ -1,5 +1,6 @@
 -- What scans of all kinds leave, and what they find.
-use Rattle.std.proofs.Common.{◌≡◌, ◌∙◌, ◌++◌, ℕ, ℤ, Bool, true, false, List, [], ◌∷◌, Option, Some, None, Result, Ok, Err, refl, subst}
+use Rattle.std.proofs.Common.{◌≡◌, ◌∙◌, ◌++◌, ℕ, ℤ, Bool, true, false, List, [], ◌∷◌, Option, Some, None, Result, Ok, Err, refl, subst, ap, length, ◌≤◌, arith}
+use Rattle.std.proofs.lemmas.List.{length-append, length-map}
 use Rattle.std.specs.Prelude.{if◌then◌else◌, pos, negsuc, nat_lt, not, IfOk}
 use Rattle.ts_geometry.specs.declared.glue.Glue.{Glue}
 use Rattle.box_tree.specs.declared.node.BoxSize.{BoxSize}
@@ -224,12 +225,23 @@ grammar_gives wants.FileName list = both All (IsFound wants.FileName) list (file
 grammar_gives (wants.Keyword word) list =
     both All (IsFound (wants.Keyword word)) list (keyword (word_letters word) list) keyword_value (keyword_gives (word_letters word) list) (λ b c left found. ((tt, tt), itself left))
 
+last_fewer : (list rest : List FedToken) → AreLast (tokens_of list) (tokens_of rest) → length rest ≤ length list
+last_fewer list rest last =
+    let all : length (last.0 ++ tokens_of rest) ≡ length (tokens_of list) = ap length last.1 in
+    let parts = length-append last.0 (tokens_of rest) in
+    let tokens = length-map list (λ (x : FedToken). x.token) in
+    let left = length-map rest (λ (x : FedToken). x.token) in
+    omega (arith, all, parts, tokens, left)
+
 module _ (want : Want) (list rest : List FedToken) (value : Value) (context : Context) (is : grammar want list ≡ Got value context rest) where
   found : Gives (IsFound want) list (Got value context rest)
   found = subst (λ answer. Gives (IsFound want) list answer) is (grammar_gives want list)
 
   pub last_left : AreLast (tokens_of list) (tokens_of rest)
   last_left = found.1
+
+  pub no_longer : length rest ≤ length list
+  no_longer = last_fewer list rest last_left
 
   pub list_held : IsHeldIn context.env value
   list_held = found.0.0
