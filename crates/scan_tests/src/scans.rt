@@ -16,7 +16,7 @@ use tok_lists::{NameNo, Names, SharedTokens, Token};
 use ts_geometry::{Dir, Glue, Measures, Order, Sp};
 
 /// What a scan finds, dimensions in scaled points.
-#[derive(Clone, Copy, Debug, PartialEq, Eq)]
+#[derive(Clone, Copy, PartialEq, Eq)]
 enum Found {
     Integer(i64),
     Dimen(i64),
@@ -29,7 +29,7 @@ enum Found {
 }
 
 /// How a scan ends.
-#[derive(Clone, Copy, Debug, PartialEq, Eq)]
+#[derive(Clone, Copy, PartialEq, Eq)]
 enum End {
     /// With a value, before this text.
     Done(Found, &'static str),
@@ -237,256 +237,360 @@ fn is_scanned(bench: &Bench<'_>, want: Want, text: &str, end: End) -> bool {
     ends(&mut scan, text.as_bytes(), end, bench)
 }
 
-fn check(rt: &impl Abort, bench: &Bench<'_>, want: Want, text: &str, end: End) {
-    assert!(rt; is_scanned(bench, want, text, end), "{}", text);
-}
+/// A kind of scan, a text that is fed, and how its scan ends.
+type Row = (Want, &'static str, End);
 
-fn check_integers(rt: &impl Abort, bench: &Bench<'_>) {
-    for (text, value, left) in [
-        ("'777 ", 511, ""),
-        ("\"FFFFx", 65535, "x"),
-        ("`@ ", 0xA4A2, ""),
-        ("`~x", 97, "x"),
-        ("2147483647 ", 2_147_483_647, ""),
-        (" - -+-5 a", -5, "a"),
-        ("###1 a", 42, "a"),
-        ("-#7 ", 7, ""),
-        ("|1", 65, "1"),
-        ("$1 ", 100, ""),
-        ("-%1 ", -5, ""),
-        ("^97 ", 11, ""),
-        ("1_", 1, "_"),
-    ] {
-        check(
-            rt,
-            bench,
-            Want::Integer,
-            text,
-            End::Done(Found::Integer(value), left),
-        );
-    }
-}
+// Integers.
+const INTEGERS: &[Row] = &[
+    (Want::Integer, "'777 ", End::Done(Found::Integer(511), "")),
+    (
+        Want::Integer,
+        "\"FFFFx",
+        End::Done(Found::Integer(65535), "x"),
+    ),
+    (Want::Integer, "`@ ", End::Done(Found::Integer(0xA4A2), "")),
+    (Want::Integer, "`~x", End::Done(Found::Integer(97), "x")),
+    (
+        Want::Integer,
+        "2147483647 ",
+        End::Done(Found::Integer(2_147_483_647), ""),
+    ),
+    (
+        Want::Integer,
+        " - -+-5 a",
+        End::Done(Found::Integer(-5), "a"),
+    ),
+    (Want::Integer, "###1 a", End::Done(Found::Integer(42), "a")),
+    (Want::Integer, "-#7 ", End::Done(Found::Integer(7), "")),
+    (Want::Integer, "|1", End::Done(Found::Integer(65), "1")),
+    (Want::Integer, "$1 ", End::Done(Found::Integer(100), "")),
+    (Want::Integer, "-%1 ", End::Done(Found::Integer(-5), "")),
+    (Want::Integer, "^97 ", End::Done(Found::Integer(11), "")),
+    (Want::Integer, "1_", End::Done(Found::Integer(1), "_")),
+];
 
-// Each unit with an integer.
-fn check_units(rt: &impl Abort, bench: &Bench<'_>) {
-    for (text, size) in [
-        ("1pt ", 65536),
-        ("1pc ", 786_432),
-        ("1in ", 4_736_286),
-        ("1bp ", 65781),
-        ("1cm ", 1_864_679),
-        ("1mm ", 186_467),
-        ("1dd ", 70124),
-        ("1cc ", 841_489),
-        ("1sp ", 1),
-        ("1Q ", 46616),
-        ("1h ", 46616),
-        ("1em ", 1000),
-        ("1EX ", 501),
-        ("1zw ", 2000),
-        ("1zh ", 3000),
-        ("1$1 ", 100),
-        ("1#3 ", 42),
-        ("1%1 ", 5),
-    ] {
-        check(
-            rt,
-            bench,
-            Want::Dimen,
-            text,
-            End::Done(Found::Dimen(size), ""),
-        );
-    }
-}
+// Each unit with an integer and with a fraction.
+const UNITS: &[Row] = &[
+    (Want::Dimen, "1pt ", End::Done(Found::Dimen(65536), "")),
+    (Want::Dimen, "1pc ", End::Done(Found::Dimen(786_432), "")),
+    (Want::Dimen, "1in ", End::Done(Found::Dimen(4_736_286), "")),
+    (Want::Dimen, "1bp ", End::Done(Found::Dimen(65781), "")),
+    (Want::Dimen, "1cm ", End::Done(Found::Dimen(1_864_679), "")),
+    (Want::Dimen, "1mm ", End::Done(Found::Dimen(186_467), "")),
+    (Want::Dimen, "1dd ", End::Done(Found::Dimen(70124), "")),
+    (Want::Dimen, "1cc ", End::Done(Found::Dimen(841_489), "")),
+    (Want::Dimen, "1sp ", End::Done(Found::Dimen(1), "")),
+    (Want::Dimen, "1Q ", End::Done(Found::Dimen(46616), "")),
+    (Want::Dimen, "1h ", End::Done(Found::Dimen(46616), "")),
+    (Want::Dimen, "1em ", End::Done(Found::Dimen(1000), "")),
+    (Want::Dimen, "1EX ", End::Done(Found::Dimen(501), "")),
+    (Want::Dimen, "1zw ", End::Done(Found::Dimen(2000), "")),
+    (Want::Dimen, "1zh ", End::Done(Found::Dimen(3000), "")),
+    (Want::Dimen, "1$1 ", End::Done(Found::Dimen(100), "")),
+    (Want::Dimen, "1#3 ", End::Done(Found::Dimen(42), "")),
+    (Want::Dimen, "1%1 ", End::Done(Found::Dimen(5), "")),
+    (Want::Dimen, "1.5pt ", End::Done(Found::Dimen(98304), "")),
+    (
+        Want::Dimen,
+        "1.5pc ",
+        End::Done(Found::Dimen(1_179_648), ""),
+    ),
+    (
+        Want::Dimen,
+        "1.5in ",
+        End::Done(Found::Dimen(7_104_430), ""),
+    ),
+    (Want::Dimen, "1.5bp ", End::Done(Found::Dimen(98672), "")),
+    (
+        Want::Dimen,
+        "1.5cm ",
+        End::Done(Found::Dimen(2_797_019), ""),
+    ),
+    (Want::Dimen, "1.5mm ", End::Done(Found::Dimen(279_701), "")),
+    (Want::Dimen, "1.5dd ", End::Done(Found::Dimen(105_186), "")),
+    (
+        Want::Dimen,
+        "1.5cc ",
+        End::Done(Found::Dimen(1_262_233), ""),
+    ),
+    (Want::Dimen, "1,5sp ", End::Done(Found::Dimen(1), "")),
+    (Want::Dimen, "1.5Q ", End::Done(Found::Dimen(69925), "")),
+    (Want::Dimen, "1.5h ", End::Done(Found::Dimen(69925), "")),
+    (Want::Dimen, "1.5em ", End::Done(Found::Dimen(1500), "")),
+    (Want::Dimen, "1.5EX ", End::Done(Found::Dimen(751), "")),
+    (Want::Dimen, "1.5zw ", End::Done(Found::Dimen(3000), "")),
+    (Want::Dimen, "1.5zh ", End::Done(Found::Dimen(4500), "")),
+    (Want::Dimen, "1.5$1 ", End::Done(Found::Dimen(150), "")),
+    (Want::Dimen, "1.5#3 ", End::Done(Found::Dimen(63), "")),
+    (Want::Dimen, "1.5%1 ", End::Done(Found::Dimen(7), "")),
+];
 
-fn check_units_with_fractions(rt: &impl Abort, bench: &Bench<'_>) {
-    for (text, size) in [
-        ("1.5pt ", 98304),
-        ("1.5pc ", 1_179_648),
-        ("1.5in ", 7_104_430),
-        ("1.5bp ", 98672),
-        ("1.5cm ", 2_797_019),
-        ("1.5mm ", 279_701),
-        ("1.5dd ", 105_186),
-        ("1.5cc ", 1_262_233),
-        ("1,5sp ", 1),
-        ("1.5Q ", 69925),
-        ("1.5h ", 69925),
-        ("1.5em ", 1500),
-        ("1.5EX ", 751),
-        ("1.5zw ", 3000),
-        ("1.5zh ", 4500),
-        ("1.5$1 ", 150),
-        ("1.5#3 ", 63),
-        ("1.5%1 ", 7),
-    ] {
-        check(
-            rt,
-            bench,
-            Want::Dimen,
-            text,
-            End::Done(Found::Dimen(size), ""),
-        );
-    }
-}
+// Dimensions.
+const DIMENSIONS: &[Row] = &[
+    (Want::Dimen, ".5$1 x", End::Done(Found::Dimen(50), "x")),
+    (Want::Dimen, "-.5#1sp", End::Done(Found::Dimen(-1), "sp")),
+    (Want::Dimen, "#7pt-", End::Done(Found::Dimen(-458_752), "-")),
+    (Want::Dimen, "- %1 ", End::Done(Found::Dimen(-5), "")),
+    (Want::Dimen, "* ", End::Done(Found::Dimen(30_785_863), " ")),
+    (
+        Want::Dimen,
+        "16383.99999pt ",
+        End::Done(Found::Dimen(1_073_741_823), ""),
+    ),
+    (Want::Dimen, "'11 pt ", End::Done(Found::Dimen(589_824), "")),
+    (Want::Dimen, "&2 ", End::Done(Found::Dimen(0), "")),
+];
 
-fn check_dimensions(rt: &impl Abort, bench: &Bench<'_>) {
-    for (text, size, left) in [
-        (".5$1 x", 50, "x"),
-        ("-.5#1sp", -1, "sp"),
-        ("#7pt-", -458_752, "-"),
-        ("- %1 ", -5, ""),
-        ("* ", 30_785_863, " "),
-        ("16383.99999pt ", 1_073_741_823, ""),
-        ("'11 pt ", 589_824, ""),
-        ("&2 ", 0, ""),
-    ] {
-        check(
-            rt,
-            bench,
-            Want::Dimen,
-            text,
-            End::Done(Found::Dimen(size), left),
-        );
-    }
-}
-
-fn glue(width: i64, stretch: i64, stretch_order: Order, shrink: i64, shrink_order: Order) -> Found {
-    Found::Glue(Glue {
-        width: Sp(width),
-        stretch: Sp(stretch),
-        stretch_order,
-        shrink: Sp(shrink),
-        shrink_order,
-    })
-}
-
-fn check_glue(rt: &impl Abort, bench: &Bench<'_>) {
-    let plain = Order::Normal;
-    for (text, found, left) in [
-        (
-            "1pt plus 2fil minus 3filll x",
-            glue(65536, 131_072, Order::Fil, 196_608, Order::Filll),
+// Glue.
+const GLUE: &[Row] = &[
+    (
+        Want::Glue,
+        "1pt plus 2fil minus 3filll x",
+        End::Done(
+            Found::Glue(Glue {
+                width: Sp(65536),
+                stretch: Sp(131_072),
+                stretch_order: Order::Fil,
+                shrink: Sp(196_608),
+                shrink_order: Order::Filll,
+            }),
             "x",
         ),
-        (
-            "1pt plus 1fil l x",
-            glue(65536, 65536, Order::Fill, 0, plain),
+    ),
+    (
+        Want::Glue,
+        "1pt plus 1fil l x",
+        End::Done(
+            Found::Glue(Glue {
+                width: Sp(65536),
+                stretch: Sp(65536),
+                stretch_order: Order::Fill,
+                shrink: Sp(0),
+                shrink_order: Order::Normal,
+            }),
             "x",
         ),
-        ("1pt plu x", glue(65536, 0, plain, 0, plain), "plu x"),
-        ("-1pt plus2sp;", glue(-65536, 2, plain, 0, plain), ";"),
-        ("%1 x", Found::Glue(SKIP), "x"),
-        ("-%1 x", glue(-5, -6, Order::Fil, 7, plain), "x"),
-        ("#3sp minus -%1 x", glue(42, 0, plain, -5, plain), "x"),
-        (
-            "- $1 PLUS 1FiL;",
-            glue(-100, 65536, Order::Fil, 0, plain),
+    ),
+    (
+        Want::Glue,
+        "1pt plu x",
+        End::Done(
+            Found::Glue(Glue {
+                width: Sp(65536),
+                stretch: Sp(0),
+                stretch_order: Order::Normal,
+                shrink: Sp(0),
+                shrink_order: Order::Normal,
+            }),
+            "plu x",
+        ),
+    ),
+    (
+        Want::Glue,
+        "-1pt plus2sp;",
+        End::Done(
+            Found::Glue(Glue {
+                width: Sp(-65536),
+                stretch: Sp(2),
+                stretch_order: Order::Normal,
+                shrink: Sp(0),
+                shrink_order: Order::Normal,
+            }),
             ";",
         ),
-    ] {
-        check(rt, bench, Want::Glue, text, End::Done(found, left));
-    }
-}
-
-fn check_keywords(rt: &impl Abort, bench: &Bench<'_>) {
-    for (word, text, there, left) in [
-        (Word::Scaled, " sCaledx", true, "x"),
-        (Word::Scaled, " sca x", false, "sca x"),
-        (Word::At, "#t", false, "#t"),
-        (Word::At, "at", true, ""),
-        (Word::By, "by", true, ""),
-        (Word::Width, "width", true, ""),
-        (Word::Height, "height", true, ""),
-        (Word::Depth, "depth", true, ""),
-    ] {
-        check(
-            rt,
-            bench,
-            Want::Keyword(word),
-            text,
-            End::Done(Found::Keyword(there), left),
-        );
-    }
-}
-
-fn check_others(rt: &impl Abort, bench: &Bench<'_>) {
-    for (want, text, found, left) in [
-        (Want::Internal, "#3 x", Found::Integer(42), "x"),
-        (Want::Internal, "|x", Found::Integer(65), "x"),
-        (Want::Internal, "$1x", Found::Dimen(100), "x"),
-        (Want::Internal, "%1x", Found::Glue(SKIP), "x"),
-        (Want::Internal, "!1 x", Found::Toks("a"), "x"),
-        (
-            Want::BoxSize,
-            " to 2sp x",
-            Found::BoxSize(BoxSize::To(Sp(2))),
+    ),
+    (Want::Glue, "%1 x", End::Done(Found::Glue(SKIP), "x")),
+    (
+        Want::Glue,
+        "-%1 x",
+        End::Done(
+            Found::Glue(Glue {
+                width: Sp(-5),
+                stretch: Sp(-6),
+                stretch_order: Order::Fil,
+                shrink: Sp(7),
+                shrink_order: Order::Normal,
+            }),
             "x",
         ),
-        (
-            Want::BoxSize,
-            "spreAd-$1;",
-            Found::BoxSize(BoxSize::Spread(Sp(-100))),
+    ),
+    (
+        Want::Glue,
+        "#3sp minus -%1 x",
+        End::Done(
+            Found::Glue(Glue {
+                width: Sp(42),
+                stretch: Sp(0),
+                stretch_order: Order::Normal,
+                shrink: Sp(-5),
+                shrink_order: Order::Normal,
+            }),
+            "x",
+        ),
+    ),
+    (
+        Want::Glue,
+        "- $1 PLUS 1FiL;",
+        End::Done(
+            Found::Glue(Glue {
+                width: Sp(-100),
+                stretch: Sp(65536),
+                stretch_order: Order::Fil,
+                shrink: Sp(0),
+                shrink_order: Order::Normal,
+            }),
             ";",
         ),
-        (Want::BoxSize, " t;", Found::BoxSize(BoxSize::Natural), "t;"),
-        (
-            Want::BoxSize,
-            "  spr;",
-            Found::BoxSize(BoxSize::Natural),
-            "spr;",
-        ),
-        (Want::BoxSize, "_", Found::BoxSize(BoxSize::Natural), "_"),
-        (Want::Equals, "  =5", Found::Equals, "5"),
-        (Want::Equals, " _", Found::Equals, "_"),
-        (Want::FileName, "  ab.tex x", Found::FileName("ab.tex"), "x"),
-        (Want::FileName, "a_b", Found::FileName("a"), "_b"),
-    ] {
-        check(rt, bench, want, text, End::Done(found, left));
-    }
-}
+    ),
+];
 
-fn check_faults(rt: &impl Abort, bench: &Bench<'_>) {
-    for (want, text, kind) in [
-        (Want::Integer, "x", ScanKind::NoNumber),
-        (Want::Integer, "_", ScanKind::NoNumber),
-        (Want::Integer, "`|", ScanKind::NoNumber),
-        (Want::Integer, "!1 ", ScanKind::NoNumber),
-        (Want::Integer, "2147483648 ", ScanKind::NumberRange),
-        (Want::Integer, "#256 ", ScanKind::RegisterRange),
-        (Want::Integer, "#-1 ", ScanKind::RegisterRange),
-        (Want::Integer, "^256 ", ScanKind::CodeRange),
-        (Want::Dimen, "1x", ScanKind::NoUnit),
-        (Want::Dimen, "1f", ScanKind::NoUnit),
-        (Want::Dimen, "1 .", ScanKind::NoUnit),
-        (Want::Dimen, "1!", ScanKind::NoUnit),
-        (Want::Dimen, "16384pt ", ScanKind::DimenRange),
-        (Want::Dimen, "9999999999p", ScanKind::NumberRange),
-        (Want::Glue, "1pt plus1fillll", ScanKind::NoUnit),
-        (Want::Glue, "1pt plus1fix", ScanKind::NoUnit),
-        (Want::Internal, " ", ScanKind::NoNumber),
-        (Want::Internal, "1", ScanKind::NoNumber),
-        (Want::Internal, "!256 ", ScanKind::RegisterRange),
-        (Want::FileName, "@ ", ScanKind::NoName),
-        (Want::FileName, "#", ScanKind::NoName),
-    ] {
-        check(rt, bench, want, text, End::Refused(kind));
-    }
-}
+// Keywords.
+const KEYWORDS: &[Row] = &[
+    (
+        Want::Keyword(Word::Scaled),
+        " sCaledx",
+        End::Done(Found::Keyword(true), "x"),
+    ),
+    (
+        Want::Keyword(Word::Scaled),
+        " sca x",
+        End::Done(Found::Keyword(false), "sca x"),
+    ),
+    (
+        Want::Keyword(Word::At),
+        "#t",
+        End::Done(Found::Keyword(false), "#t"),
+    ),
+    (
+        Want::Keyword(Word::At),
+        "at",
+        End::Done(Found::Keyword(true), ""),
+    ),
+    (
+        Want::Keyword(Word::By),
+        "by",
+        End::Done(Found::Keyword(true), ""),
+    ),
+    (
+        Want::Keyword(Word::Width),
+        "width",
+        End::Done(Found::Keyword(true), ""),
+    ),
+    (
+        Want::Keyword(Word::Height),
+        "height",
+        End::Done(Found::Keyword(true), ""),
+    ),
+    (
+        Want::Keyword(Word::Depth),
+        "depth",
+        End::Done(Found::Keyword(true), ""),
+    ),
+];
+
+// What \the takes, sizes of boxes, equals and names of files.
+const OTHERS: &[Row] = &[
+    (Want::Internal, "#3 x", End::Done(Found::Integer(42), "x")),
+    (Want::Internal, "|x", End::Done(Found::Integer(65), "x")),
+    (Want::Internal, "$1x", End::Done(Found::Dimen(100), "x")),
+    (Want::Internal, "%1x", End::Done(Found::Glue(SKIP), "x")),
+    (Want::Internal, "!1 x", End::Done(Found::Toks("a"), "x")),
+    (
+        Want::BoxSize,
+        " to 2sp x",
+        End::Done(Found::BoxSize(BoxSize::To(Sp(2))), "x"),
+    ),
+    (
+        Want::BoxSize,
+        "spreAd-$1;",
+        End::Done(Found::BoxSize(BoxSize::Spread(Sp(-100))), ";"),
+    ),
+    (
+        Want::BoxSize,
+        " t;",
+        End::Done(Found::BoxSize(BoxSize::Natural), "t;"),
+    ),
+    (
+        Want::BoxSize,
+        "  spr;",
+        End::Done(Found::BoxSize(BoxSize::Natural), "spr;"),
+    ),
+    (
+        Want::BoxSize,
+        "_",
+        End::Done(Found::BoxSize(BoxSize::Natural), "_"),
+    ),
+    (Want::Equals, "  =5", End::Done(Found::Equals, "5")),
+    (Want::Equals, " _", End::Done(Found::Equals, "_")),
+    (
+        Want::FileName,
+        "  ab.tex x",
+        End::Done(Found::FileName("ab.tex"), "x"),
+    ),
+    (Want::FileName, "a_b", End::Done(Found::FileName("a"), "_b")),
+];
+
+// Faults.
+const FAULTS: &[Row] = &[
+    (Want::Integer, "x", End::Refused(ScanKind::NoNumber)),
+    (Want::Integer, "_", End::Refused(ScanKind::NoNumber)),
+    (Want::Integer, "`|", End::Refused(ScanKind::NoNumber)),
+    (Want::Integer, "!1 ", End::Refused(ScanKind::NoNumber)),
+    (
+        Want::Integer,
+        "2147483648 ",
+        End::Refused(ScanKind::NumberRange),
+    ),
+    (
+        Want::Integer,
+        "#256 ",
+        End::Refused(ScanKind::RegisterRange),
+    ),
+    (Want::Integer, "#-1 ", End::Refused(ScanKind::RegisterRange)),
+    (Want::Integer, "^256 ", End::Refused(ScanKind::CodeRange)),
+    (Want::Dimen, "1x", End::Refused(ScanKind::NoUnit)),
+    (Want::Dimen, "1f", End::Refused(ScanKind::NoUnit)),
+    (Want::Dimen, "1 .", End::Refused(ScanKind::NoUnit)),
+    (Want::Dimen, "1!", End::Refused(ScanKind::NoUnit)),
+    (Want::Dimen, "16384pt ", End::Refused(ScanKind::DimenRange)),
+    (
+        Want::Dimen,
+        "9999999999p",
+        End::Refused(ScanKind::NumberRange),
+    ),
+    (
+        Want::Glue,
+        "1pt plus1fillll",
+        End::Refused(ScanKind::NoUnit),
+    ),
+    (Want::Glue, "1pt plus1fix", End::Refused(ScanKind::NoUnit)),
+    (Want::Internal, " ", End::Refused(ScanKind::NoNumber)),
+    (Want::Internal, "1", End::Refused(ScanKind::NoNumber)),
+    (
+        Want::Internal,
+        "!256 ",
+        End::Refused(ScanKind::RegisterRange),
+    ),
+    (Want::FileName, "@ ", End::Refused(ScanKind::NoName)),
+    (Want::FileName, "#", End::Refused(ScanKind::NoName)),
+];
 
 // What isn't whole wants a further token: raw after a backquote alone.
-fn check_wants(rt: &impl Abort, bench: &Bench<'_>) {
-    for (want, text, end) in [
-        (Want::Integer, "2147483648", End::Expanded),
-        (Want::Dimen, "16384pt", End::Expanded),
-        (Want::Glue, "1pt plus1filll", End::Expanded),
-        (Want::Integer, "#1", End::Expanded),
-        (Want::Integer, "-", End::Expanded),
-        (Want::Integer, "-`", End::Raw),
-        (Want::Glue, "1pt minus #`", End::Raw),
-        (Want::Integer, "-`a", End::Expanded),
-    ] {
-        check(rt, bench, want, text, end);
+const WANTS: &[Row] = &[
+    (Want::Integer, "2147483648", End::Expanded),
+    (Want::Dimen, "16384pt", End::Expanded),
+    (Want::Glue, "1pt plus1filll", End::Expanded),
+    (Want::Integer, "#1", End::Expanded),
+    (Want::Integer, "-", End::Expanded),
+    (Want::Integer, "-`", End::Raw),
+    (Want::Glue, "1pt minus #`", End::Raw),
+    (Want::Integer, "-`a", End::Expanded),
+];
+
+// Each row of a table.
+fn check(rt: &impl Abort, bench: &Bench<'_>, rows: &[Row]) {
+    for (want, text, end) in rows {
+        assert!(rt; is_scanned(bench, *want, text, *end), "{}", text);
     }
 }
 
@@ -497,25 +601,16 @@ fn check_width(rt: &impl Abort, alloc: Global, env: &mut Env, names: &Names, dir
         dir,
     });
     let bench = Bench { alloc, env, names };
-    check(
-        rt,
-        &bench,
-        Want::Integer,
-        "&1 ",
-        End::Done(Found::Integer(width), ""),
-    );
+    let end = End::Done(Found::Integer(width), "");
+    check(rt, &bench, &[(Want::Integer, "&1 ", end)]);
 }
 
 fn check_tables(rt: &impl Abort, bench: &Bench<'_>) {
-    check_integers(rt, bench);
-    check_units(rt, bench);
-    check_units_with_fractions(rt, bench);
-    check_dimensions(rt, bench);
-    check_glue(rt, bench);
-    check_keywords(rt, bench);
-    check_others(rt, bench);
-    check_faults(rt, bench);
-    check_wants(rt, bench);
+    for rows in [
+        INTEGERS, UNITS, DIMENSIONS, GLUE, KEYWORDS, OTHERS, FAULTS, WANTS,
+    ] {
+        check(rt, bench, rows);
+    }
 }
 
 fn check_all(rt: &impl Abort, alloc: Global, env: &mut Env, names: &Names) -> Result<(), Fail> {
