@@ -1,12 +1,13 @@
 -- Bodies that are expanded, part by part.
-use Rattle.std.proofs.Common.{◌≡◌, ◌<◌, ◌≤◌, ℕ, zero, suc, Bool, true, false, List, Ok, refl, ◌∙◌, arith}
-use Rattle.std.specs.Prelude.{IfOk, if◌then◌else◌}
+use Rattle.std.proofs.Common.{◌≡◌, ◌<◌, ◌≤◌, ◌+◌, ℕ, zero, suc, Bool, true, false, List, Ok, refl, ◌∙◌, arith}
+use Rattle.std.specs.Prelude.{IfOk, if◌then◌else◌, not, ◌&&◌, []}
 use Rattle.ts_base.specs.Agreement.{Cause, Determined, Counted, Free, ◌>>=◌, with_fault, AgreesFault}
 use Rattle.tok_lists.specs.declared.spelling.Spelling.{Spelling}
 use Rattle.tok_lists.specs.declared.token.Token.{Token}
 use Rattle.tok_lists.specs.declared.token.Token.TheVariants as tokens
 use Rattle.mouth.specs.Keeping.{IsToken}
 use Rattle.mouth.specs.Reading.{Reading, Stop}
+use Rattle.mouth.specs.Changes.{begun}
 use Rattle.mouth.specs.Sizes.{size}
 use Rattle.mouth.specs.Tokens.{plain}
 use Rattle.raw_texts.specs.declared.machine.Progress.{Progress}
@@ -15,25 +16,36 @@ use Rattle.macros.specs.declared.body.Body.{Body}
 use Rattle.macros.specs.Bodies.{step}
 use Rattle.expander.specs.declared.fault.StepFault.{StepFault}
 use Rattle.expander.specs.declared.fault.StepFault.TheVariants.{Text}
-use Rattle.expander.specs.Faults.{stopped}
+use Rattle.scan_syntax.specs.declared.want.Want.TheVariants.{Internal}
+use Rattle.expander.specs.Faults.{of_mouth, stopped}
 use Rattle.expander.specs.Worlds.{World, world, Outcome, token_from}
-use Rattle.expander.specs.Actions.{expands}
-use Rattle.expander.specs.Steps.{Expand}
+use Rattle.expander.specs.Actions.{expands, front_of}
+use Rattle.expander.specs.Steps.{Expand, Scan}
 use Rattle.expander.specs.Expansion.{run}
-use Rattle.expander.specs.Definitions.{Part, part, token_fed, part_with, next_part, goes_as, goes_on, expanded_within, expanded}
+use Rattle.expander.specs.Definitions.{Part, part, token_fed, is_the, the_stored, part_expanded, part_with, next_part, goes_as, goes_on, expanded_within, expanded}
 use Rattle.expander.proofs.Falling.{bind_same}
-use Rattle.expander.proofs.Outcomes.{if_bind, if_then}
-use Rattle.expander.proofs.Sized.{token_falls, expand_leaves}
+use Rattle.expander.proofs.Outcomes.{if_weaker, if_bind, if_then, if_fault, if_either}
+use Rattle.expander.proofs.Texts.{begun_falls, ended_size}
+use Rattle.expander.proofs.Sized.{run_falls, token_falls, expand_leaves}
 use Rattle.std.proofs.lemmas.Result.{IfOk-at_ok}
 
 -- ---- each part leaves less
 
-part_falls : (body : Body) (w : World) (t : Token × Reading) → size t.1 < size w.at → IfOk (part_with body w t) (λ p. size p.rest.at < size w.at)
-part_falls body w t less = either (expands w.nest t.0)
+stored_falls : (body : Body) (w : World) → IfOk (the_stored body w) (λ p. size p.rest.at < size w.at)
+stored_falls body w = if_bind (with_fault of_mouth (begun w.at)) _ (λ x. size x + 100000000000 ≡ size w.at) _ (if_fault of_mouth (begun w.at) _ (begun_falls w.at)) (λ x less.
+    if_bind (run (Scan Internal []) (world x w.nest)) _ (λ y. size y.1.at ≤ size x + 1000000) _ (run_falls (Scan Internal []) (world x w.nest)) (λ y few. omega (arith, less, few, ended_size y.1.at)))
+
+expanded_falls : (body : Body) (w : World) (t : Token × Reading) → size t.1 < size w.at → IfOk (part_expanded body w t) (λ p. size p.rest.at < size w.at)
+expanded_falls body w t less = either (expands w.nest t.0)
   where
     either : (b : Bool) → IfOk (if b then (run (Expand t.0) (world t.1 w.nest) >>= λ v. Ok (part On body v)) else token_fed body (plain t.0) (world t.1 w.nest)) (λ p. size p.rest.at < size w.at)
     either true = if_bind (run (Expand t.0) (world t.1 w.nest)) (λ v. Ok (part On body v)) (λ v. size v.at ≤ size t.1) _ (expand_leaves t.0 (world t.1 w.nest)) (λ v few. omega (arith, less, few))
     either false = if_then (with_fault (λ fault. stopped (Text fault) t.1) (step w.nest body (plain t.0))) (λ p. Ok (part p.0 p.1 (world t.1 w.nest))) _ (λ p. less)
+
+part_falls : (body : Body) (w : World) (t : Token × Reading) → size t.1 < size w.at → IfOk (part_with body w t) (λ p. size p.rest.at < size w.at)
+part_falls body w t less = if_either (is_the (front_of w.nest t.0) && not body.hash) _ _ _
+    (if_weaker (the_stored body (world t.1 w.nest)) (λ p. size p.rest.at < size t.1) _ (stored_falls body (world t.1 w.nest)) (λ p fewer. omega (arith, less, fewer)))
+    (expanded_falls body w t less)
 
 next_falls : (body : Body) (w : World) → IfOk (next_part body w) (λ p. size p.rest.at < size w.at)
 next_falls body w = if_bind (token_from w.nest w.at) (part_with body w) (λ t. size t.1 < size w.at) _ (token_falls w.nest w.at) (λ t less. part_falls body w t less)

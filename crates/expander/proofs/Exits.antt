@@ -1,16 +1,18 @@
 -- What the exits of `?` answer, where the fault is the mouth's.
-use Rattle.std.proofs.Common.{◌≡◌, Result, Ok, Err, IfOk, subst, sym}
+use Rattle.std.proofs.Common.{◌≡◌, Result, Ok, Err, IfOk, subst, sym, refl}
 use Rattle.std.specs.Result.{IsErr, IsErrAnd}
 use mathlib.Core.Bool.{false≢true}
 use Rattle.ts_base.specs.Agreement.{◌>>=◌, with_fault, AgreesFault, Agrees}
 use Rattle.ts_base.proofs.Composing.{fault_agrees, first_refuses, same_agrees}
 use Rattle.mouth.specs.declared.fault.MouthFault.{MouthFault}
 use Rattle.mouth.specs.declared.place.Place.{Place}
-use Rattle.mouth.specs.Reading.{Stop, at_place, stop_cause, mouth_cause}
+use Rattle.mouth.specs.Reading.{Reading, Stop, at_place, stop_cause, mouth_cause}
+use Rattle.env_groups.specs.Environments.{Nest}
 use Rattle.raw_texts.specs.declared.fault.MacroFault.TheVariants.{Mouth}
 use Rattle.expander.specs.declared.fault.StepFault.{StepFault}
 use Rattle.expander.specs.declared.fault.StepFault.TheVariants.{Text}
 use Rattle.expander.specs.Faults.{step_cause, of_mouth}
+use Rattle.expander.specs.Worlds.{world, Outcome}
 
 -- A step of the mouth refuses.
 pub mouth_refuses : {X Y : Type 0} (view : X → Y) (place : Place) (result : Result X StepFault) (e : MouthFault) (given : Result Y (Stop MouthFault))
@@ -37,3 +39,9 @@ pub step_refuses : {X Y : Type 0} (view : X → Y) (place : Place) (result : Res
     → AgreesFault (step_cause e) (at_place place e) b → Agrees view (stop_cause step_cause) (with_fault (at_place place) result) a
 step_refuses view place (Ok x) e a b exit same agrees = absurd (false≢true exit.0)
 step_refuses view place (Err d) e a b exit same agrees = rw exit.1 (same_agrees (step_cause e) (at_place place e) a b same agrees)
+
+-- An answer that leaves the environment alone, in a world.
+pub world_agrees : (result : Result (Unit {0}) StepFault) (place : Place) (r : Reading) (nest : Nest) (given : Outcome Reading) → Agrees (λ _. r) (stop_cause step_cause) (with_fault (at_place place) result) given
+    → Agrees (λ _. world r nest) (stop_cause step_cause) (with_fault (at_place place) result) (given >>= λ at. Ok (world at nest))
+world_agrees (Ok x) place r nest given agrees = rw agrees refl
+world_agrees (Err e) place r nest given agrees = first_refuses (step_cause e) (at_place place e) given (λ at. Ok (world at nest)) agrees

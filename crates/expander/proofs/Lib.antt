@@ -16,3 +16,6 @@ pub mod Defining
 pub mod Knowing
 pub mod Printing
 pub mod Turns
+pub mod Spaces
+pub mod Cases
+pub mod Spelling

@@ -1,6 +1,6 @@
 -- What all answers of a step have, where those of the steps that it is made of have it.
 use Rattle.std.proofs.Common.{◌≡◌, Bool, true, false, Result, Ok, Err, refl}
-use Rattle.std.specs.Prelude.{IfOk, if◌then◌else◌}
+use Rattle.std.specs.Prelude.{IfOk, OnOk, if◌then◌else◌}
 use Rattle.ts_base.specs.Agreement.{◌>>=◌, with_fault}
 
 pub if_given : {X E : Type 0} (a : Result X E) (P : X → Type 0) → ((x : X) → a ≡ Ok x → P x) → IfOk a P
@@ -27,3 +27,8 @@ if_fault becomes (Err e) P has = tt
 pub if_either : {X E : Type 0} (b : Bool) (x y : Result X E) (P : X → Type 0) → IfOk x P → IfOk y P → IfOk (if b then x else y) P
 if_either true x y P has other = has
 if_either false x y P has other = other
+
+-- what is so after an answer, where there is one
+pub on_ok : {X E : Type 0} (P : Type 0) (a : Result X E) (x : X) → a ≡ Ok x → OnOk a P → P
+on_ok P (Ok y) x is has = has
+on_ok P (Err e) x is has = absurd cc

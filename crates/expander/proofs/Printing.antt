@@ -27,7 +27,7 @@ code_plain : (names : List Spelling) (cell : Option Kuten) → IfOk (code_shown 
 code_plain names (Some k) = text_plain names _
 code_plain names None = tt
 
-value_plain : (names : List Spelling) (value : Value) → IsListed (IsPlainList names) value → IsPlainList names (value_shown value)
+pub value_plain : (names : List Spelling) (value : Value) → IsListed (IsPlainList names) value → IsPlainList names (value_shown value)
 value_plain names (values.Integer n) listed = text_plain names (signed_decimal n)
 value_plain names (values.Dimen d) listed = text_plain names (dimension d.0)
 value_plain names (values.Glue g) listed = text_plain names (glue g)

@@ -1,8 +1,9 @@
 -- What an expansion leaves is no more than what stood after its token, and the next unexpandable token leaves less: so no call
 -- is ever asked of too much.
 use Rattle.std.proofs.Common.{◌≡◌, ◌≤◌, ◌<◌, ◌+◌, ℕ, zero, suc, Bool, true, false, List, [], ◌∷◌, ◌++◌, length, Option, Some, None, Result, Ok, Err, arith, ap, ◌∙◌}
-use Rattle.std.specs.Prelude.{IfOk, if◌then◌else◌, nat_lt}
+use Rattle.std.specs.Prelude.{IfOk, if◌then◌else◌, nat_lt, ℤ}
 use Rattle.ts_base.specs.Agreement.{◌>>=◌, with_fault}
+use Rattle.jis_codes.specs.declared.Char.{Char}
 use Rattle.tok_lists.specs.declared.token.Token.{Token}
 use Rattle.tok_lists.specs.declared.token.Token.TheVariants as tokens
 use Rattle.env_groups.specs.declared.meaning.MacroDef.{MacroDef}
@@ -11,7 +12,8 @@ use Rattle.mouth.specs.declared.allowed.Allowed.{Allowed}
 use Rattle.mouth.specs.declared.allowed.Allowed.TheVariants as allowed
 use Rattle.mouth.specs.Reading.{Reading}
 use Rattle.mouth.specs.Tokens.{next, plain, next_plain}
-use Rattle.mouth.specs.Changes.{with_list, with_call, begun, opened, closed}
+use Rattle.mouth.specs.Changes.{with_list, with_call, named, begun, opened, closed}
+use Rattle.mouth.specs.Opening.{with_file}
 use Rattle.mouth.specs.Sizes.{size}
 use Rattle.raw_texts.specs.declared.limb.Limb.{Limb}
 use Rattle.raw_texts.specs.declared.limb.Limb.TheVariants as limbs
@@ -22,9 +24,11 @@ use Rattle.raw_texts.specs.declared.skipping.Ended.TheVariants as ended_by
 use Rattle.raw_texts.specs.Skipping.{skipped}
 use Rattle.macros.specs.Calls.{call}
 use Rattle.scan_numbers.specs.declared.fault.ScanKind.{ScanKind}
-use Rattle.scan_numbers.specs.Tokens.{FedToken}
+use Rattle.scan_numbers.specs.Contexts.{around as in_context}
+use Rattle.scan_numbers.specs.Tokens.{FedToken, is_space}
 use Rattle.scan_numbers.specs.Answers.{Form, Expanded, Raw, Answer, Got, Needs, Bad}
 use Rattle.scan_syntax.specs.declared.want.Want.{Want}
+use Rattle.scan_syntax.specs.declared.want.Want.TheVariants as wants
 use Rattle.scan_syntax.specs.declared.want.Value.{Value}
 use Rattle.scan_syntax.specs.Scans.{grammar}
 use Rattle.expander.specs.declared.action.Printing.{Printing}
@@ -33,7 +37,14 @@ use Rattle.expander.specs.declared.action.Front.TheVariants as fronts
 use Rattle.expander.specs.declared.action.Action.{Action}
 use Rattle.expander.specs.declared.action.Action.TheVariants as actions
 use Rattle.expander.specs.declared.action.Question.{Question}
-use Rattle.expander.specs.Faults.{of_text, of_mouth, extra_conditional}
+use Rattle.expander.specs.declared.action.NumberTest.{NumberTest}
+use Rattle.expander.specs.declared.action.NumberTest.TheVariants as tests
+use Rattle.expander.specs.declared.action.Relation.{Relation}
+use Rattle.expander.specs.declared.action.Aspect.{Aspect}
+use Rattle.expander.specs.declared.action.Further.{Further}
+use Rattle.expander.specs.declared.action.Further.TheVariants as furthers
+use Rattle.expander.specs.declared.fault.StepFault.TheVariants as faults
+use Rattle.expander.specs.Faults.{of_text, of_mouth, stopped, extra_conditional}
 use Rattle.expander.specs.Worlds.{World, world, Outcome, token_from, plain_from, put, in_expansion, in_world}
 use Rattle.expander.specs.Actions.{expands, front_of}
 use Rattle.expander.specs.Conditionals.{relax, innermost, allows, branch_ended, limb_where, after_false, passed_over, inner_count, decided}
@@ -41,14 +52,18 @@ use Rattle.expander.specs.Questions.{answer, asked}
 use Rattle.expander.specs.Comparisons.{mean_same, if_x}
 use Rattle.expander.specs.Plain.{body_put, called, kept, spelt, work, acted}
 use Rattle.expander.specs.Scanning.{fed_in, left_over}
-use Rattle.expander.specs.Numbers.{want_of, shown, shown_put}
-use Rattle.expander.specs.Steps.{Call, Next, Expand, Scan, Given, Calls, wanted, scan_on, scan_step, next_on, next_step, second, expand_next, expand_after, print_scanned, around, acts, expand_as, expand_step, step}
+use Rattle.expander.specs.Numbers.{want_of, integer_in, shown, shown_put}
+use Rattle.expander.specs.Choices.{is_odd, register_answer, relation_of, holds, amount_in, case_number, is_first, case_met, case_after, cases_before, case_chosen, number_tested}
+use Rattle.expander.specs.Faces.{face_of, are_alike}
+use Rattle.expander.specs.Naming.{char_of, ends_name, spelling_of, name_put}
+use Rattle.expander.specs.Inputs.{name_in, source_name, file_opened}
+use Rattle.expander.specs.Steps.{Call, Next, PastSpaces, Chars, Expand, Scan, Given, Calls, wanted, scan_on, scan_step, next_on, next_step, past_on, past_step, second, expand_next, expand_after, print_scanned, test_scanned, related, relation_read, compare_scanned, chars_with, chars_on, chars_step, compare_tokens, make_name, input, goes_further, around, acts, expand_as, expand_step, step}
 use Rattle.expander.specs.Expansion.{rank, gives_up, below, calls_at, run}
 use Rattle.std.proofs.lemmas.Result.{IfOk-at_ok}
 use Rattle.expander.proofs.Equations.{run_is, below_run}
 use Rattle.expander.proofs.Falling.{bind_same, token_less}
-use Rattle.expander.proofs.Outcomes.{if_weaker, if_bind, if_fault, if_either}
-use Rattle.expander.proofs.Texts.{ended_size, ending_size, opened_size, changed_size, closed_size, begun_falls, list_grows, next_falls, plain_falls, skipped_falls, call_falls}
+use Rattle.expander.proofs.Outcomes.{if_weaker, if_bind, if_then, if_fault, if_either}
+use Rattle.expander.proofs.Texts.{ended_size, ending_size, opened_size, changed_size, closed_size, named_falls, file_grows, begun_falls, list_grows, next_falls, plain_falls, skipped_falls, call_falls}
 
 -- ---- what leaves the environment alone
 
@@ -116,6 +131,31 @@ limb_grows nest token limb (Some allowed.Or) r = allowed_falls nest limb (allows
 limb_grows nest token limb (Some allowed.Else) r = allowed_falls nest limb (allows allowed.Else limb) r
 limb_grows nest token limb (Some allowed.Fi) r = allowed_falls nest limb (allows allowed.Fi limb) r
 
+-- ---- tests of numbers
+
+met_falls : (next : Reading → Outcome Reading) (number : ℕ) (end : Ended) (r : Reading) → IfOk (next r) (λ v. size v ≤ size r) → IfOk (case_met next number end r) (λ v. size v ≤ size r)
+met_falls next number ended_by.Or r falls = falls
+met_falls next number ended_by.Else r falls = omega (arith, false_size number ended_by.Else r)
+met_falls next number ended_by.Fi r falls = omega (arith, false_size number ended_by.Fi r)
+
+case_falls : (nest : Nest) (number n : ℕ) (r : Reading) → IfOk (case_after nest number n r) (λ v. size v ≤ size r)
+unfolding case_after
+case_falls nest number zero r = omega (arith, changed_size number allowed.Or r)
+case_falls nest number (suc n) r = if_bind (with_fault of_text (skipped nest until.Or r)) _ (λ e. size e.1 < size r) _ (skipping_falls nest until.Or r) (λ e less.
+    if_weaker (case_met (case_after nest number n) number e.0 e.1) (λ v. size v ≤ size e.1) _
+    (met_falls (case_after nest number n) number e.0 e.1 (case_falls nest number n e.1)) (λ v few. omega (arith, less, few)))
+
+chosen_falls : (nest : Nest) (number : ℕ) (cases : Option ℕ) (r : Reading) → IfOk (case_chosen nest number cases r) (λ v. size v ≤ size r)
+chosen_falls nest number cases r = if_either (is_first cases) _ _ _ (omega (arith, changed_size number allowed.Or r))
+    (if_bind (passed_over nest (inner_count number r) r) _ (λ v. size v ≤ size r) _ (over_falls nest (inner_count number r) r) (λ v few.
+    if_weaker (case_after nest number (cases_before cases v) v) (λ u. size u ≤ size v) _ (case_falls nest number (cases_before cases v) v) (λ u fewer. omega (arith, few, fewer))))
+
+pub tested_falls : (nest : Nest) (number : ℕ) (test : NumberTest) (n : ℤ) (r : Reading) → IfOk (number_tested nest number test n r) (λ v. size v ≤ size r)
+tested_falls nest number tests.Odd n r = decided_falls nest number (is_odd n) r
+tested_falls nest number tests.Case n r = chosen_falls nest number (case_number n) r
+tested_falls nest number (tests.Register test) n r =
+    if_then (with_fault (λ kind. stopped (faults.Scan kind) r) (register_answer nest test n)) _ _ (λ yes. decided_falls nest number yes r)
+
 -- ---- expansions that expand no further token
 
 Grows : Outcome Reading → ℕ → Type 0
@@ -152,9 +192,7 @@ work_grows nest token actions.EndInput r = omega (arith, ending_size r)
 work_grows nest token (actions.Ends limb) r = few_grow _ (size r) (limb_grows nest token limb (innermost r.conditionals) r)
 work_grows nest token (actions.Asks question) r = none_grow _ (size r) (asked_falls nest question r)
 work_grows nest token actions.IfX r = none_grow _ (size r) (if_x_falls nest r)
-work_grows nest token actions.ExpandAfter r = omega arith
-work_grows nest token (actions.Prints printing) r = omega arith
-work_grows nest token actions.Missing r = omega arith
+work_grows nest token (actions.Further further) r = omega arith
 work_grows nest token actions.Unexpandable r = omega arith
 
 pub acted_falls : (nest : Nest) (token : Token) (action : Action) (r : Reading) → IfOk (acted nest token action r) (λ v. size v ≤ size r)
@@ -170,8 +208,17 @@ shown_grows (Err kind) r = tt
 -- how much a call leaves at most
 abbrev pub Leaves : (call : Call) → World → Given call → Type 0
 Leaves Next w t = size t.1.at < size w.at
+Leaves PastSpaces w t = size t.1.at < size w.at
+Leaves (Chars before) w c = size c.1.at < size w.at
 Leaves (Expand token) w v = size v.at ≤ size w.at
 Leaves (Scan want before) w y = size y.1.at ≤ size w.at + 1000000
+
+pub opening_grows : (name : List ℕ) (r : Reading) → IfOk (file_opened name r) (λ v. size v ≤ size r + 65536000000)
+opening_grows name r = if_then (with_fault (λ kind. stopped (faults.Scan kind) r) (source_name name)) _ _ (λ n. if_fault of_mouth (with_file n r) _ (file_grows n r))
+
+pub name_grows : (list : List Char) (w : World) → IfOk (name_put list w) (λ v. size v.at ≤ size w.at + 1000000)
+name_grows list w = if_bind (with_fault of_mouth (named (spelling_of list) w.at)) _ (λ n. size n.1 ≤ size w.at) _ (if_fault of_mouth (named (spelling_of list) w.at) _ (named_falls (spelling_of list) w.at)) (λ n few.
+    if_bind (put (tokens.Name (record { 0 = n.0 }) ∷ []) n.1) _ (λ v. size v ≤ size n.1 + 1000000) _ (put_grows (tokens.Name (record { 0 = n.0 }) ∷ []) n.1) (λ v more. omega (arith, few, more)))
 
 -- All calls leave so much.
 abbrev pub AllFall : Calls → Type 0
@@ -198,6 +245,24 @@ module _ (f : Calls) (fall : AllFall f) where
   unfolding next_step
   next_step_falls w = if_bind (token_from w.nest w.at) (next_on f w) (λ t. size t.1 < size w.at) _ (token_falls w.nest w.at) (λ t less. next_on_falls w t less)
 
+  past_on_falls : (t : Token × World) → IfOk (past_on f t) (λ u. size u.1.at ≤ size t.1.at)
+  past_on_falls t = if_either (is_space t.0 (in_context t.1.nest t.1.at.names)) _ _ _
+      (if_weaker (f PastSpaces t.1) (λ u. size u.1.at < size t.1.at) _ (fall PastSpaces t.1) (λ u less. omega (arith, less))) (omega arith)
+
+  past_step_falls : (w : World) → IfOk (past_step f w) (λ u. size u.1.at < size w.at)
+  unfolding past_step
+  past_step_falls w = if_bind (f Next w) (past_on f) (λ t. size t.1.at < size w.at) _ (fall Next w) (λ t less.
+      if_weaker (past_on f t) (λ u. size u.1.at ≤ size t.1.at) _ (past_on_falls t) (λ u few. omega (arith, less, few)))
+
+  chars_fall : (before : List Char) (found : Option Char) (token : Token) (w : World) → IfOk (chars_with f before found token w) (λ c. size c.1.at ≤ size w.at)
+  chars_fall before (Some c) token w = if_weaker (f (Chars (before ++ c ∷ [])) w) (λ u. size u.1.at < size w.at) _ (fall (Chars (before ++ c ∷ [])) w) (λ u less. omega (arith, less))
+  chars_fall before None token w = if_either (ends_name w.nest token) _ _ _ (omega arith) tt
+
+  chars_step_falls : (before : List Char) (w : World) → IfOk (chars_step f before w) (λ c. size c.1.at < size w.at)
+  unfolding chars_step
+  chars_step_falls before w = if_bind (f Next w) (chars_on f before) (λ t. size t.1.at < size w.at) _ (fall Next w) (λ t less.
+      if_weaker (chars_with f before (char_of t.0) t.0 t.1) (λ u. size u.1.at ≤ size t.1.at) _ (chars_fall before (char_of t.0) t.0 t.1) (λ u few. omega (arith, less, few)))
+
   second_grows : (w : World) (t : Token × Reading) → IfOk (second f w t) (λ v. size v.at ≤ size t.1 + 1000000)
   second_grows w t = if_either (expands w.nest t.0) _ _ _
       (if_weaker (f (Expand t.0) (world t.1 w.nest)) (λ v. size v.at ≤ size t.1) _ (fall (Expand t.0) (world t.1 w.nest)) (λ v few. omega (arith, few)))
@@ -221,11 +286,59 @@ module _ (f : Calls) (fall : AllFall f) where
       if_weaker (in_world y.1 (shown_put (shown printing y.0) y.1.at)) (λ v. size v.at ≤ size y.1.at + 1000000) _
       (in_world_falls (size y.1.at + 1000000) y.1 (shown_put (shown printing y.0) y.1.at) (shown_grows (shown printing y.0) y.1.at)) (λ v more. omega (arith, few, more)))
 
+  test_grows : (test : NumberTest) (w : World) → IfOk (test_scanned f test w) (λ v. size v.at ≤ size w.at + 100000000000)
+  test_grows test w = if_bind (f (Scan wants.Integer []) (world (opened w.at) w.nest)) _ (λ a. size a.1.at ≤ size (opened w.at) + 1000000) _ (fall (Scan wants.Integer []) (world (opened w.at) w.nest)) (λ a few.
+      if_weaker (in_world a.1 (number_tested a.1.nest (length w.at.conditionals) test (integer_in a.0) a.1.at)) (λ v. size v.at ≤ size a.1.at) _
+      (in_world_falls (size a.1.at) a.1 (number_tested a.1.nest (length w.at.conditionals) test (integer_in a.0) a.1.at) (tested_falls a.1.nest (length w.at.conditionals) test (integer_in a.0) a.1.at))
+      (λ v fewer. omega (arith, few, fewer, opened_size w.at)))
+
+  related_falls : (found : Option Relation) (w : World) → IfOk (related found w) (λ r. size r.1.at ≤ size w.at)
+  related_falls (Some relation) w = omega arith
+  related_falls None w = tt
+
+  pub relation_falls : (w : World) → IfOk (relation_read f w) (λ r. size r.1.at < size w.at)
+  relation_falls w = if_bind (f PastSpaces w) _ (λ t. size t.1.at < size w.at) _ (fall PastSpaces w) (λ t less.
+      if_weaker (related (relation_of t.0) t.1) (λ r. size r.1.at ≤ size t.1.at) _ (related_falls (relation_of t.0) t.1) (λ r few. omega (arith, less, few)))
+
+  compare_grows : (want : Want) (w : World) → IfOk (compare_scanned f want w) (λ v. size v.at ≤ size w.at + 100000000000)
+  compare_grows want w = if_bind (f (Scan want []) (world (opened w.at) w.nest)) _ (λ a. size a.1.at ≤ size (opened w.at) + 1000000) _ (fall (Scan want []) (world (opened w.at) w.nest)) (λ a few.
+      if_bind (relation_read f a.1) _ (λ r. size r.1.at < size a.1.at) _ (relation_falls a.1) (λ r less.
+      if_bind (f (Scan want []) r.1) _ (λ b. size b.1.at ≤ size r.1.at + 1000000) _ (fall (Scan want []) r.1) (λ b more.
+      if_weaker (in_world b.1 (decided b.1.nest (length w.at.conditionals) (holds r.0 (amount_in a.0) (amount_in b.0)) b.1.at)) (λ v. size v.at ≤ size b.1.at) _
+      (in_world_falls (size b.1.at) b.1 (decided b.1.nest (length w.at.conditionals) (holds r.0 (amount_in a.0) (amount_in b.0)) b.1.at)
+      (decided_falls b.1.nest (length w.at.conditionals) (holds r.0 (amount_in a.0) (amount_in b.0)) b.1.at))
+      (λ v fewer. omega (arith, few, less, more, fewer, opened_size w.at)))))
+
+  tokens_grow : (aspect : Aspect) (w : World) → IfOk (compare_tokens f aspect w) (λ v. size v.at ≤ size w.at + 100000000000)
+  tokens_grow aspect w = if_bind (f Next (world (opened w.at) w.nest)) _ (λ a. size a.1.at < size (opened w.at)) _ (fall Next (world (opened w.at) w.nest)) (λ a less.
+      if_bind (f Next a.1) _ (λ b. size b.1.at < size a.1.at) _ (fall Next a.1) (λ b fewer.
+      let yes = are_alike aspect (face_of a.1.nest a.1.at.names a.0) (face_of b.1.nest b.1.at.names b.0) in
+      if_weaker (in_world b.1 (decided b.1.nest (length w.at.conditionals) yes b.1.at)) (λ v. size v.at ≤ size b.1.at) _
+      (in_world_falls (size b.1.at) b.1 (decided b.1.nest (length w.at.conditionals) yes b.1.at) (decided_falls b.1.nest (length w.at.conditionals) yes b.1.at))
+      (λ v few. omega (arith, less, fewer, few, opened_size w.at))))
+
+  make_grows : (w : World) → IfOk (make_name f w) (λ v. size v.at ≤ size w.at + 100000000000)
+  make_grows w = if_bind (f (Chars []) w) _ (λ c. size c.1.at < size w.at) _ (fall (Chars []) w) (λ c less.
+      if_weaker (name_put c.0 c.1) (λ v. size v.at ≤ size c.1.at + 1000000) _ (name_grows c.0 c.1) (λ v more. omega (arith, less, more)))
+
+  input_grows : (w : World) → IfOk (input f w) (λ v. size v.at ≤ size w.at + 100000000000)
+  input_grows w = if_bind (f (Scan wants.FileName []) w) _ (λ y. size y.1.at ≤ size w.at + 1000000) _ (fall (Scan wants.FileName []) w) (λ y few.
+      if_weaker (in_world y.1 (file_opened (name_in y.0) y.1.at)) (λ v. size v.at ≤ size y.1.at + 65536000000) _
+      (in_world_falls (size y.1.at + 65536000000) y.1 (file_opened (name_in y.0) y.1.at) (opening_grows (name_in y.0) y.1.at)) (λ v more. omega (arith, few, more)))
+
+  further_grows : (further : Further) (w : World) → IfOk (goes_further f further w) (λ v. size v.at ≤ size w.at + 100000000000)
+  further_grows furthers.ExpandAfter w = expand_after_grows w
+  further_grows (furthers.Prints printing) w = print_grows printing w
+  further_grows (furthers.Tests test) w = test_grows test w
+  further_grows furthers.IfNum w = compare_grows wants.Integer w
+  further_grows furthers.IfDim w = compare_grows wants.Dimen w
+  further_grows (furthers.Compares aspect) w = tokens_grow aspect w
+  further_grows furthers.CsName w = make_grows w
+  further_grows furthers.Input w = input_grows w
+
   acts_fall : (token : Token) (action : Action) (w : World) → IfOk (acts f token action w) (λ v. size v.at ≤ size w.at)
-  acts_fall token actions.Missing w = tt
   acts_fall token actions.Unexpandable w = omega arith
-  acts_fall token actions.ExpandAfter w = around_falls (expand_after f) w expand_after_grows
-  acts_fall token (actions.Prints printing) w = around_falls (print_scanned f printing) w (print_grows printing)
+  acts_fall token (actions.Further further) w = around_falls (goes_further f further) w (further_grows further)
   acts_fall token actions.NoExpand w = plainly token actions.NoExpand w
   acts_fall token actions.String w = plainly token actions.String w
   acts_fall token actions.EndInput w = plainly token actions.EndInput w
@@ -259,6 +372,8 @@ module _ (f : Calls) (fall : AllFall f) where
 
   pub step_falls : AllFall (step f)
   step_falls Next w = next_step_falls w
+  step_falls PastSpaces w = past_step_falls w
+  step_falls (Chars before) w = chars_step_falls before w
   step_falls (Expand token) w = expand_step_falls token w
   step_falls (Scan want before) w = scan_step_grows want before w
 
@@ -284,6 +399,15 @@ next_leaves w = run_falls Next w
 
 pub expand_size : (token : Token) (w v : World) → run (Expand token) w ≡ Ok v → size v.at ≤ size w.at
 expand_size token w v is = IfOk-at_ok (λ (u : World). size u.at ≤ size w.at) is (expand_leaves token w)
+
+pub next_size : (w : World) (t : Token × World) → run Next w ≡ Ok t → size t.1.at < size w.at
+next_size w t is = IfOk-at_ok (λ (u : Token × World). size u.1.at < size w.at) is (next_leaves w)
+
+pub scan_size : (want : Want) (before : List FedToken) (w : World) (y : Value × World) → run (Scan want before) w ≡ Ok y → size y.1.at ≤ size w.at + 1000000
+scan_size want before w y is = IfOk-at_ok (λ (u : Value × World). size u.1.at ≤ size w.at + 1000000) is (run_falls (Scan want before) w)
+
+pub relation_size : (w : World) (r : Relation × World) → relation_read run w ≡ Ok r → size r.1.at < size w.at
+relation_size w r is = IfOk-at_ok (λ (u : Relation × World). size u.1.at < size w.at) is (relation_falls run run_falls w)
 
 go_same : (k : ℕ) (token : Token) (w : World) → rank (Expand token) w < k → (below k run (Expand token) w >>= below k run Next) ≡ (run (Expand token) w >>= run Next)
 go_same k token w less = ap (λ (x : Outcome World). x >>= below k run Next) (below_run k (Expand token) w less)

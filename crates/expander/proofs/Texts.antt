@@ -1,14 +1,21 @@
 -- What reading without expansion makes of how much may still be read.
 use Rattle.std.proofs.Common.{◌≡◌, ◌≤◌, ◌<◌, ◌+◌, ℕ, zero, suc, Bool, List, [], ◌∷◌, Result, Ok, refl, arith}
-use Rattle.std.specs.Prelude.{IfOk, not, ◌&&◌}
+use Rattle.std.specs.Prelude.{IfOk, not, ◌&&◌, nat_le, length, Option, Some, None}
+use Rattle.ts_base.specs.Agreement.{with_fault}
+use Rattle.ts_outside.specs.Reading.{bytes_of}
+use Rattle.input_codings.specs.declared.coding.Coding.{Coding}
+use Rattle.tok_lists.specs.declared.spelling.Spelling.{Spelling}
+use Rattle.tok_lists.specs.Names.{numbered, with_name}
+use Rattle.kcat_eyes.specs.Sights.{ahead}
+use Rattle.mouth.specs.Opening.{first_file, with_file}
 use Rattle.tok_lists.specs.declared.token.Token.{Token}
 use Rattle.env_groups.specs.declared.meaning.MacroDef.{MacroDef}
 use Rattle.env_groups.specs.Environments.{Nest, codes_of}
 use Rattle.mouth.specs.declared.allowed.Allowed.{Allowed}
-use Rattle.mouth.specs.Reading.{Reading, Stop}
+use Rattle.mouth.specs.Reading.{Reading, Stop, stop, of_names, of_open, with_names}
 use Rattle.mouth.specs.Tokens.{next, plain, next_plain}
-use Rattle.mouth.specs.Changes.{with_list, begun, ended, ending, opened, changed, closed, entered, left}
-use Rattle.mouth.specs.Sizes.{unread, size}
+use Rattle.mouth.specs.Changes.{with_list, named, begun, ended, ending, opened, changed, closed, entered, left}
+use Rattle.mouth.specs.Sizes.{file_size, unread, size}
 use Rattle.mouth.proofs.Falls.{token_size, list_size, begun_size}
 use Rattle.raw_texts.specs.declared.fault.MacroFault.{MacroFault}
 use Rattle.raw_texts.specs.declared.machine.Progress.{Progress}
@@ -64,6 +71,24 @@ begun_falls r = if_given (begun r) _ (λ v is. begun_size r v is)
 
 pub list_grows : (list : List Token) (r : Reading) → IfOk (with_list list r) (λ v. size v ≤ size r + 1000000)
 list_grows list r = if_given (with_list list r) _ (λ v is. list_size list r v is)
+
+names_size : (names : List Spelling) (r : Reading) → size (with_names r names) ≡ size r
+unfolding size unread
+names_size names r = refl
+
+pub named_falls : (spelling : Spelling) (r : Reading) → IfOk (named spelling r) (λ n. size n.1 ≤ size r)
+named_falls spelling r = if_then (with_fault (λ f. stop (of_names f) r) (numbered r.names spelling)) _ _ (λ n. omega (arith, names_size (with_name r.names spelling) r))
+
+first_size : (coding : Coding) (name : List ℕ) (bytes : Option (List ℕ)) → IfOk (first_file coding name bytes) (λ file. file_size file ≤ 65536000000)
+unfolding ahead
+first_size coding name None = tt
+first_size coding name (Some bytes) = omega arith
+
+pub file_grows : (name : List ℕ) (r : Reading) → IfOk (with_file name r) (λ v. size v ≤ size r + 65536000000)
+unfolding size unread
+file_grows name r = if_either (nat_le 15 (1 + length r.below)) _ _ _ tt
+    (if_bind (with_fault (λ f. stop (of_open f) r) (first_file r.coding name (bytes_of r.held name))) _ (λ file. file_size file ≤ 65536000000) _
+    (if_fault (λ f. stop (of_open f) r) (first_file r.coding name (bytes_of r.held name)) _ (first_size r.coding name (bytes_of r.held name))) (λ file few. omega (arith, few)))
 
 -- ---- tokens
 

@@ -14,11 +14,15 @@ use Rattle.expander.specs.declared.action.Front.TheVariants as fronts
 use Rattle.expander.specs.declared.action.Action.{Action}
 use Rattle.expander.specs.declared.action.Action.TheVariants as actions
 use Rattle.expander.specs.declared.action.Question.TheVariants as questions
+use Rattle.expander.specs.declared.action.Further.TheVariants as furthers
+use Rattle.expander.specs.declared.action.NumberTest.TheVariants as tests
+use Rattle.expander.specs.declared.action.BoxTest.TheVariants as boxes
+use Rattle.expander.specs.declared.action.Aspect.TheVariants as aspects
 use Rattle.expander.specs.declared.action.Printing.TheVariants as printings
 
--- A primitive that is expanded and stands in no line here has no step yet.
+-- A primitive that stands in no line here isn't expanded.
 abbrev pub action_of : PrimitiveName → Action
-action_of prims.ExpandAfter = actions.ExpandAfter
+action_of prims.ExpandAfter = actions.Further furthers.ExpandAfter
 action_of prims.NoExpand = actions.NoExpand
 action_of prims.String = actions.String
 action_of prims.EndInput = actions.EndInput
@@ -34,24 +38,24 @@ action_of prims.IfInner = actions.Asks questions.Inner
 action_of prims.IfYDir = actions.Asks questions.YDir
 action_of prims.IfTDir = actions.Asks questions.TDir
 action_of prims.IfDDir = actions.Asks questions.DDir
-action_of prims.CsName = actions.Missing
-action_of prims.Number = actions.Prints printings.Number
-action_of prims.RomanNumeral = actions.Prints printings.RomanNumeral
-action_of prims.The = actions.Prints printings.The
-action_of prims.Input = actions.Missing
-action_of prims.Jis = actions.Prints printings.Jis
-action_of prims.Euc = actions.Prints printings.Euc
-action_of prims.Sjis = actions.Prints printings.Sjis
-action_of prims.Kuten = actions.Prints printings.Kuten
-action_of prims.If = actions.Missing
-action_of prims.IfCat = actions.Missing
-action_of prims.IfNum = actions.Missing
-action_of prims.IfDim = actions.Missing
-action_of prims.IfOdd = actions.Missing
-action_of prims.IfVoid = actions.Missing
-action_of prims.IfHBox = actions.Missing
-action_of prims.IfVBox = actions.Missing
-action_of prims.IfCase = actions.Missing
+action_of prims.CsName = actions.Further furthers.CsName
+action_of prims.Number = actions.Further (furthers.Prints printings.Number)
+action_of prims.RomanNumeral = actions.Further (furthers.Prints printings.RomanNumeral)
+action_of prims.The = actions.Further (furthers.Prints printings.The)
+action_of prims.Input = actions.Further furthers.Input
+action_of prims.Jis = actions.Further (furthers.Prints printings.Jis)
+action_of prims.Euc = actions.Further (furthers.Prints printings.Euc)
+action_of prims.Sjis = actions.Further (furthers.Prints printings.Sjis)
+action_of prims.Kuten = actions.Further (furthers.Prints printings.Kuten)
+action_of prims.If = actions.Further (furthers.Compares aspects.Code)
+action_of prims.IfCat = actions.Further (furthers.Compares aspects.Category)
+action_of prims.IfNum = actions.Further furthers.IfNum
+action_of prims.IfDim = actions.Further furthers.IfDim
+action_of prims.IfOdd = actions.Further (furthers.Tests tests.Odd)
+action_of prims.IfVoid = actions.Further (furthers.Tests (tests.Register boxes.Void))
+action_of prims.IfHBox = actions.Further (furthers.Tests (tests.Register boxes.HBox))
+action_of prims.IfVBox = actions.Further (furthers.Tests (tests.Register boxes.VBox))
+action_of prims.IfCase = actions.Further (furthers.Tests tests.Case)
 action_of _ = actions.Unexpandable
 
 -- ---- what a token comes to

@@ -1,23 +1,30 @@
 -- Macro definitions, also those whose body is expanded (The TeXbook, chapter 20; TeX: The Program, sections 473 to 479).
-use Rattle.std.specs.Prelude.{ℕ, zero, suc, Bool, true, false, if◌then◌else◌, Ok}
+use Rattle.std.specs.Prelude.{ℕ, zero, suc, Bool, true, false, not, ◌&&◌, if◌then◌else◌, [], Ok}
 use Rattle.ts_base.specs.Agreement.{◌>>=◌, with_fault}
 use Rattle.tok_lists.specs.declared.token.Token.{Token}
 use Rattle.env_groups.specs.declared.meaning.MacroDef.{MacroDef}
 use Rattle.mouth.specs.Reading.{Reading}
-use Rattle.mouth.specs.Changes.{entered, left}
+use Rattle.mouth.specs.Changes.{begun, ended, entered, left}
 use Rattle.mouth.specs.Sizes.{size}
 use Rattle.mouth.specs.Tokens.{plain}
 use Rattle.raw_texts.specs.declared.machine.Progress.{Progress}
 use Rattle.raw_texts.specs.declared.machine.Progress.TheVariants.{On, Done}
 use Rattle.macros.specs.declared.body.Body.{Body}
 use Rattle.macros.specs.Headings.{heading}
-use Rattle.macros.specs.Bodies.{empty, step}
+use Rattle.macros.specs.Bodies.{empty, stored, step}
 use Rattle.macros.specs.Definitions.{macro_of, defined}
+use Rattle.scan_syntax.specs.declared.want.Want.TheVariants.{Internal}
+use Rattle.expander.specs.declared.action.Front.{Front}
+use Rattle.expander.specs.declared.action.Front.TheVariants as fronts
+use Rattle.expander.specs.declared.action.Action.TheVariants as actions
+use Rattle.expander.specs.declared.action.Further.TheVariants as furthers
+use Rattle.expander.specs.declared.action.Printing.TheVariants as printings
 use Rattle.expander.specs.declared.fault.StepFault.TheVariants.{Text}
-use Rattle.expander.specs.Faults.{of_text, stopped}
+use Rattle.expander.specs.Faults.{of_text, of_mouth, stopped}
 use Rattle.expander.specs.Worlds.{World, world, Outcome, token_from}
-use Rattle.expander.specs.Actions.{expands}
-use Rattle.expander.specs.Steps.{Next, Expand}
+use Rattle.expander.specs.Actions.{expands, front_of}
+use Rattle.expander.specs.Numbers.{value_shown}
+use Rattle.expander.specs.Steps.{Next, Expand, Scan}
 use Rattle.expander.specs.Expansion.{run, gives_up}
 
 -- a body that goes on or is done, and the world after its last part
@@ -33,11 +40,26 @@ part progress body w = record { progress = progress; body = body; rest = w }
 abbrev pub token_fed : Body → Token → World → Outcome Part
 token_fed body token w = with_fault (λ fault. stopped (Text fault) w.at) (step w.nest body token) >>= λ p. Ok (part p.0 p.1 w)
 
--- The part that begins with a token: an expandable one is expanded once, and any other is fed, a Kept one as its plain name.
-abbrev pub part_with : Body → World → Token × Reading → Outcome Part
-part_with body w t =
+abbrev pub is_the : Front → Bool
+is_the (fronts.Acts (actions.Further (furthers.Prints printings.The))) = true
+is_the _ = false
+
+-- What \the gives is stored as it is, and not expanded further.
+abbrev pub the_stored : Body → World → Outcome Part
+the_stored body w =
+    with_fault of_mouth (begun w.at) >>= λ at. run (Scan Internal []) (world at w.nest)
+    >>= λ v. Ok (part On (stored body (value_shown v.0)) (world (ended v.1.at) v.1.nest))
+
+-- An expandable token is expanded once, and any other is fed, a Kept one as its plain name.
+abbrev pub part_expanded : Body → World → Token × Reading → Outcome Part
+part_expanded body w t =
     if expands w.nest t.0 then (run (Expand t.0) (world t.1 w.nest) >>= λ v. Ok (part On body v))
     else token_fed body (plain t.0) (world t.1 w.nest)
+
+-- The part that begins with a token. After a # \the is expanded as any other token.
+abbrev pub part_with : Body → World → Token × Reading → Outcome Part
+part_with body w t =
+    if is_the (front_of w.nest t.0) && not body.hash then the_stored body (world t.1 w.nest) else part_expanded body w t
 
 -- the next part of a body that is expanded
 abbrev pub next_part : Body → World → Outcome Part

@@ -11,11 +11,13 @@ use Rattle.expander.specs.declared.fault.StepFault.TheVariants.{Text}
 use Rattle.expander.specs.Faults.{stopped}
 use Rattle.expander.specs.Worlds.{World, world, Outcome}
 use Rattle.expander.specs.Actions.{expands}
-use Rattle.expander.specs.Steps.{Call, Next, Expand, Scan, Calls, step}
+use Rattle.expander.specs.Steps.{Call, Next, PastSpaces, Chars, Expand, Scan, Calls, step}
 
 -- how far down a call stands among those on the same world
 abbrev pub place : Call → ℕ
 place Next = 0
+place PastSpaces = 1
+place (Chars before) = 1
 place (Expand token) = 0
 place (Scan want before) = 1
 

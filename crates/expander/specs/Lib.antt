@@ -7,6 +7,10 @@ pub mod Comparisons
 pub mod Plain
 pub mod Scanning
 pub mod Numbers
+pub mod Choices
+pub mod Faces
+pub mod Naming
+pub mod Inputs
 pub mod Steps
 pub mod Expansion
 pub mod Definitions

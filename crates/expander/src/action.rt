@@ -41,10 +41,64 @@ pub enum Printing {
     Kuten,
 }
 
+/// A test of what a box register holds (The TeXbook, chapter 20).
+#[derive(Clone, Copy, Debug, PartialEq, Eq)]
+pub enum BoxTest {
+    /// `\ifvoid`.
+    Void,
+    /// `\ifhbox`.
+    HBox,
+    /// `\ifvbox`.
+    VBox,
+}
+
+/// A test of one number (The TeXbook, chapter 20).
+#[derive(Clone, Copy, Debug, PartialEq, Eq)]
+pub enum NumberTest {
+    /// `\ifodd`.
+    Odd,
+    /// `\ifcase`.
+    Case,
+    /// A test of the box register of the number.
+    Register(BoxTest),
+}
+
+/// How two values stand to each other (The TeXbook, chapter 20).
+#[derive(Clone, Copy, Debug, PartialEq, Eq)]
+pub enum Relation {
+    Less,
+    Equal,
+    Greater,
+}
+
+/// By what two characters are compared (The TeXbook, chapter 20).
+#[derive(Clone, Copy, Debug, PartialEq, Eq)]
+pub enum Aspect {
+    /// `\if`.
+    Code,
+    /// `\ifcat`.
+    Category,
+}
+
+/// What a primitive does that expands further tokens (The TeXbook, chapter 20).
+#[derive(Clone, Copy, Debug, PartialEq, Eq)]
+pub enum Further {
+    ExpandAfter,
+    /// It scans a value, and prints it.
+    Prints(Printing),
+    /// It scans a number, and tests it.
+    Tests(NumberTest),
+    IfNum,
+    IfDim,
+    /// It compares two characters.
+    Compares(Aspect),
+    CsName,
+    Input,
+}
+
 /// What a primitive does where it is expanded (The TeXbook, chapter 20).
 #[derive(Clone, Copy, Debug, PartialEq, Eq)]
 pub enum Action {
-    ExpandAfter,
     NoExpand,
     String,
     EndInput,
@@ -53,10 +107,8 @@ pub enum Action {
     /// A test that reads no token.
     Asks(Question),
     IfX,
-    /// It scans a value, and prints it.
-    Prints(Printing),
-    /// It is expanded, and its step isn't there yet.
-    Missing,
+    /// It expands further tokens.
+    Further(Further),
     /// It isn't expanded.
     Unexpandable,
 }

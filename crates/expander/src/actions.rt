@@ -2,9 +2,10 @@
 
 ghost use Rattle.std.specs.Prelude.{◌≡◌};
 ghost use Rattle.expander.specs.Actions.{action_of as the_action_of, is_expanded as the_expanded, front_of as the_front, expands as the_expands, IsSound};
+ghost use Rattle.expander.specs.Definitions.{is_the as the_is_the};
 ghost use Rattle.expander.specs.Questions.{answer as the_answer, is_vertical, is_horizontal, is_inner};
 
-use crate::action::{Action, Front, Printing, Question};
+use crate::action::{Action, Aspect, BoxTest, Front, Further, NumberTest, Printing, Question};
 use env_groups::{Env, Meaning, Mode, Prim, Situation};
 use raw_texts::Limb;
 use tok_lists::Token;
@@ -15,7 +16,7 @@ pub(crate) fn action_of(prim: Prim) -> Action
     ensures { result ≡ the_action_of prim }
 {
     match prim {
-        Prim::ExpandAfter => Action::ExpandAfter,
+        Prim::ExpandAfter => Action::Further(Further::ExpandAfter),
         Prim::NoExpand => Action::NoExpand,
         Prim::String => Action::String,
         Prim::EndInput => Action::EndInput,
@@ -31,24 +32,24 @@ pub(crate) fn action_of(prim: Prim) -> Action
         Prim::IfYDir => Action::Asks(Question::YDir),
         Prim::IfTDir => Action::Asks(Question::TDir),
         Prim::IfDDir => Action::Asks(Question::DDir),
-        Prim::Number => Action::Prints(Printing::Number),
-        Prim::RomanNumeral => Action::Prints(Printing::RomanNumeral),
-        Prim::The => Action::Prints(Printing::The),
-        Prim::Jis => Action::Prints(Printing::Jis),
-        Prim::Euc => Action::Prints(Printing::Euc),
-        Prim::Sjis => Action::Prints(Printing::Sjis),
-        Prim::Kuten => Action::Prints(Printing::Kuten),
-        Prim::CsName
-        | Prim::Input
-        | Prim::If
-        | Prim::IfCat
-        | Prim::IfNum
-        | Prim::IfDim
-        | Prim::IfOdd
-        | Prim::IfVoid
-        | Prim::IfHBox
-        | Prim::IfVBox
-        | Prim::IfCase => Action::Missing,
+        Prim::Number => Action::Further(Further::Prints(Printing::Number)),
+        Prim::RomanNumeral => Action::Further(Further::Prints(Printing::RomanNumeral)),
+        Prim::The => Action::Further(Further::Prints(Printing::The)),
+        Prim::Jis => Action::Further(Further::Prints(Printing::Jis)),
+        Prim::Euc => Action::Further(Further::Prints(Printing::Euc)),
+        Prim::Sjis => Action::Further(Further::Prints(Printing::Sjis)),
+        Prim::Kuten => Action::Further(Further::Prints(Printing::Kuten)),
+        Prim::IfNum => Action::Further(Further::IfNum),
+        Prim::IfDim => Action::Further(Further::IfDim),
+        Prim::IfOdd => Action::Further(Further::Tests(NumberTest::Odd)),
+        Prim::IfVoid => Action::Further(Further::Tests(NumberTest::Register(BoxTest::Void))),
+        Prim::IfHBox => Action::Further(Further::Tests(NumberTest::Register(BoxTest::HBox))),
+        Prim::IfVBox => Action::Further(Further::Tests(NumberTest::Register(BoxTest::VBox))),
+        Prim::IfCase => Action::Further(Further::Tests(NumberTest::Case)),
+        Prim::If => Action::Further(Further::Compares(Aspect::Code)),
+        Prim::IfCat => Action::Further(Further::Compares(Aspect::Category)),
+        Prim::CsName => Action::Further(Further::CsName),
+        Prim::Input => Action::Further(Further::Input),
         _ => Action::Unexpandable,
     }
 }
@@ -83,6 +84,16 @@ pub(crate) fn is_expandable(token: &Token, env: &Env) -> bool
         Front::Undefined | Front::Call(_) => true,
         Front::Acts(action) => is_expanded(action),
     }
+}
+
+/// Returns whether a token is expanded as `\the`.
+pub(crate) fn is_the(token: &Token, env: &Env) -> bool
+    ensures { result ≡ the_is_the (the_front env.now token.now) }
+{
+    matches!(
+        front_of(token, env),
+        Front::Acts(Action::Further(Further::Prints(Printing::The)))
+    )
 }
 
 fn is_vertical_mode(mode: Mode) -> bool

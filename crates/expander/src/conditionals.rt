@@ -1,13 +1,14 @@
 //! How conditionals open, go on and end.
 
-ghost use Rattle.std.specs.Prelude.{◌≡◌, ◌≤◌, ◌+◌, ◌-◌, length, OnOk};
-ghost use Rattle.ts_base.specs.Agreement.{Counts, Uncounted};
+ghost use Rattle.std.specs.Prelude.{◌≡◌, ◌≤◌, ◌<◌, ◌+◌, ◌-◌, length, OnOk};
+ghost use Rattle.ts_base.specs.Agreement.{Counts, Uncounted, with_fault};
 ghost use Rattle.ts_outside.specs.States.{FilesState};
 ghost use Rattle.mouth.specs.Keeping.{reading, AgreesAt, AreOpen, AreTold, IsReadable, IsToken, KeepsFiles};
 ghost use Rattle.mouth.specs.Sizes.{size};
-ghost use Rattle.expander.specs.Faults.{step_cause};
+ghost use Rattle.raw_texts.specs.Skipping.{skipped};
+ghost use Rattle.expander.specs.Faults.{step_cause, of_text};
 ghost use Rattle.expander.specs.Holding.{Goes, HaveRelax};
-ghost use Rattle.expander.specs.Conditionals.{innermost as the_innermost, allows as the_allows, branch_ended, put_back as the_put_back, limb_met, passed_over, decided};
+ghost use Rattle.expander.specs.Conditionals.{innermost as the_innermost, allows as the_allows, branch_ended, put_back as the_put_back, limb_met, after_false, passed_over, decided};
 ghost use Rattle.expander.specs.Questions.{asked};
 
 use crate::action::Question;
@@ -45,6 +46,29 @@ fn allows(allowed: Allowed, limb: Limb) -> bool
     }
 }
 
+/// Skips text, and returns with what it ended.
+pub(crate) fn skip<F: Files>(
+    mouth: &mut Mouth,
+    files: &mut F,
+    env: &Env,
+    until: Until,
+) -> Result<Ended, StepFault>
+    requires opened { AreOpen mouth.old (F.state files.old) }
+    requires readable { IsReadable mouth.old }
+    ensures exact { AreTold mouth.old (F.state files.old)
+        → AgreesAt (λ ended. (ended, reading mouth.new (F.state files.new))) step_cause mouth.new
+        result (with_fault of_text (skipped env.now until
+        (reading mouth.old (F.state files.old)))) }
+    ensures goes { Goes mouth.old (F.state files.old) mouth.new (F.state files.new) }
+    ensures readable { OnOk result (IsReadable mouth.new) }
+    ensures size { OnOk result (size (reading mouth.new (F.state files.new))
+        < size (reading mouth.old (F.state files.old))) }
+    ensures counted { Counts step_cause result (F.state files.old).faults
+        (F.state files.new).faults }
+{
+    Ok(skip_text(mouth, files, env, until)?)
+}
+
 // Ends the branch that was taken: text is skipped up to the `\fi`.
 fn end_branch<F: Files>(
     mouth: &mut Mouth,
@@ -65,7 +89,7 @@ fn end_branch<F: Files>(
         (F.state files.new).faults }
 {
     if !matches!(limb, Limb::Fi) {
-        skip_text(mouth, files, env, Until::Fi)?;
+        skip(mouth, files, env, Until::Fi)?;
     }
     mouth.close_conditional();
     Ok(())
@@ -125,9 +149,9 @@ pub(crate) fn meet_limb<F: Files>(
     }
 }
 
-// Passes over so many conditionals, the innermost first, each up to its `\fi`.
+/// Passes over so many conditionals, the innermost first, each up to its `\fi`.
 #[tactic(auto, using(crate::proofs::Chains::goes_then))]
-fn pass_over<F: Files>(
+pub(crate) fn pass_over<F: Files>(
     mouth: &mut Mouth,
     files: &mut F,
     env: &Env,
@@ -153,8 +177,8 @@ fn pass_over<F: Files>(
     Ok(())
 }
 
-// How many conditionals are open in that of a number.
-fn inner_count(mouth: &Mouth, number: usize) -> usize
+/// Returns how many conditionals are open in that of a number.
+pub(crate) fn inner_count(mouth: &Mouth, number: usize) -> usize
     ensures { result ≡ length mouth.now.conditionals - number - 1 }
 {
     mouth
@@ -162,6 +186,22 @@ fn inner_count(mouth: &Mouth, number: usize) -> usize
         .len()
         .saturating_sub(number)
         .saturating_sub(1)
+}
+
+/// Goes on where text ended that was skipped after a false test of the conditional of a number: its
+/// `\else` lets the second branch be read, and its `\fi` ends the conditional.
+pub(crate) fn end_false(mouth: &mut Mouth, number: usize, ended: Ended)
+    ensures exact { (state : FilesState) → reading mouth.new state
+        ≡ after_false number ended (reading mouth.old state) }
+    ensures files { KeepsFiles mouth.old mouth.new }
+    ensures names { mouth.new.names ≡ mouth.old.names }
+    ensures size { (state : FilesState) → size (reading mouth.new state)
+        ≡ size (reading mouth.old state) }
+{
+    match ended {
+        Ended::Fi => mouth.close_conditional(),
+        _ => mouth.change_conditional(number, Allowed::Fi),
+    }
 }
 
 /// Goes on after the test of the conditional of a number (TeX: The Program, sections 498, 500 and
@@ -192,10 +232,8 @@ pub(crate) fn decide<F: Files>(
     }
     let inner = inner_count(mouth, number);
     pass_over(mouth, files, env, inner)?;
-    match skip_text(mouth, files, env, Until::Else)? {
-        Ended::Fi => mouth.close_conditional(),
-        _ => mouth.change_conditional(number, Allowed::Fi),
-    }
+    let ended = skip(mouth, files, env, Until::Else)?;
+    end_false(mouth, number, ended);
     Ok(())
 }
 

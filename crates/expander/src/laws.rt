@@ -19,16 +19,17 @@ ghost use Rattle.expander.specs.Definitions.{next_part, goes_on, expanded};
 ghost use Rattle.expander.specs.Worlds.{World};
 ghost use Rattle.scan_numbers.specs.Tokens.{FedToken};
 ghost use Rattle.scan_syntax.specs.declared.want.Want.{Want};
-ghost use Rattle.expander.specs.Steps.{Next, Expand, Scan, next_step, expand_step, scan_step};
+ghost use Rattle.expander.specs.Steps.{Next, PastSpaces, Expand, Scan, next_step, past_step, expand_step, scan_step};
 ghost use Rattle.expander.specs.Expansion.{run};
 
 /// Each call is its step, over the calls themselves: that each is asked of less than the one that
 /// makes it takes nothing away.
-#[tactic(auto, using(crate::proofs::Unguarded::expand_is, crate::proofs::Sized::next_is, crate::proofs::Scanning::scan_is))]
+#[tactic(auto, using(crate::proofs::Unguarded::expand_is, crate::proofs::Sized::next_is, crate::proofs::Spaces::past_is, crate::proofs::Scanning::scan_is))]
 pub fn expansion_is_its_steps()
     ensures expand { (token : Token) (w : World)
         → run (Expand token) w ≡ expand_step run token w }
     ensures next { (w : World) → run Next w ≡ next_step run w }
+    ensures past_spaces { (w : World) → run PastSpaces w ≡ past_step run w }
     ensures scan { (want : Want) (before : List FedToken) (w : World)
         → run (Scan want before) w ≡ scan_step run want before w }
 {}

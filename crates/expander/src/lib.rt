@@ -3,22 +3,21 @@
 
 mod action;
 mod actions;
+mod choices;
 mod comparisons;
 mod conditionals;
 mod definition;
 mod expansion;
+mod faces;
 mod fault;
 mod gullet;
 mod gullet_fault;
 mod laws;
-#[cfg(test)]
-mod macro_tests;
+mod naming;
 mod numbers;
 mod plain;
 mod scans;
 mod steps;
-#[cfg(test)]
-mod tests;
 
 pub use fault::StepFault;
 pub use gullet::Gullet;

@@ -38,8 +38,8 @@ pub(crate) fn want_of(printing: Printing) -> Want
     }
 }
 
-// The integer that a scan found, and 0 where it found another value.
-fn integer_in(value: &Value) -> i64
+/// Returns the integer that a scan found, and 0 where it found another value.
+pub(crate) fn integer_in(value: &Value) -> i64
     ensures { result ≡ the_integer value.now }
 {
     match value {
@@ -96,7 +96,8 @@ fn code_shown(alloc: Global, cell: Option<Cell>) -> Result<SharedTokens, StepFau
     }
 }
 
-fn value_shown(alloc: Global, value: &Value) -> Result<SharedTokens, NoMemory>
+/// Returns what `\the` gives: a list of tokens as it is, and any other value printed.
+pub(crate) fn value_shown(alloc: Global, value: &Value) -> Result<SharedTokens, NoMemory>
     ensures { IfOk result (λ tokens. tokens ≡ the_value_shown value.now) }
 {
     match value {

@@ -6,6 +6,8 @@ ghost use Rattle.ts_outside.specs.States.{FilesState};
 ghost use Rattle.env_groups.specs.Environments.{Nest};
 ghost use Rattle.mouth.specs.Keeping.{reading, AgreesAt, KeepsFiles};
 ghost use Rattle.mouth.specs.Sizes.{size};
+ghost use Rattle.scan_numbers.specs.Contexts.{around};
+ghost use Rattle.scan_numbers.specs.Tokens.{is_space as the_is_space};
 ghost use Rattle.expander.specs.Faults.{step_cause};
 ghost use Rattle.expander.specs.Worlds.{world, put};
 ghost use Rattle.expander.specs.Holding.{IsListed, IsPlainList};
@@ -13,11 +15,20 @@ ghost use Rattle.expander.specs.Scanning.{given_back, is_known as the_known, are
 
 use crate::fault::StepFault;
 use crate::steps::push;
+use env_groups::Env;
 use mouth::Mouth;
+use scan_numbers::{Context, is_space};
 use scan_syntax::Value;
 use std::alloc::Global;
 use tok_lists::{Names, SharedTokens, Token, Tokens};
 use ts_base::NoMemory;
+
+/// Returns whether a token is a space, explicit or implicit.
+pub(crate) fn is_space_in(token: &Token, names: &Names, env: &Env) -> bool
+    ensures { result ≡ the_is_space token.now (around env.now names.now) }
+{
+    is_space(token, &Context::new(env, names))
+}
 
 fn is_known(names: &Names, token: Token) -> bool
     ensures { result ≡ the_known names.now token }

@@ -11,3 +11,6 @@ pub returns-clause-body : goal.returns-clause-body
 returns-clause-body g c =
     c.feed.ensures.holds c.take.new.mouth.names (rw c.plain.ensures (plain_token c.take.new.mouth.names c.in_ok-token.token c.in_ok-token.ensures.token))
     (body_still c.args.mouth.now.names c.take.new.mouth.names c.args.body.now c.take.ensures.goes.names c.requires.body)
+
+pub store_the-requires-clause-body : goal.store_the-requires-clause-body
+store_the-requires-clause-body g c = body_still c.args.mouth.now.names c.take.new.mouth.names c.args.body.now c.take.ensures.goes.names c.requires.body

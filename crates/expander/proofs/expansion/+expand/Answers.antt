@@ -1,15 +1,21 @@
-use Rattle.std.proofs.Common.{◌≡◌, ◌∙◌, refl, sym, arith, true, false}
+use Rattle.std.proofs.Common.{◌≡◌, ◌∙◌, refl, sym, arith, true, false, Option, Some, None}
 use Rattle.mouth.specs.Reading.{at_place}
 use Rattle.mouth.specs.Keeping.{reading, place_in}
 use Rattle.expander.specs.Actions.{expands}
 use Rattle.expander.specs.Faults.{step_cause}
 use Rattle.expander.specs.Worlds.{world}
-use Rattle.expander.specs.Steps.{Next}
+use Rattle.scan_numbers.specs.Contexts.{around}
+use Rattle.scan_numbers.specs.Tokens.{is_space}
+use Rattle.jis_codes.specs.declared.Char.{Char}
+use Rattle.expander.specs.Naming.{char_of}
+use Rattle.expander.specs.Steps.{Next, PastSpaces, Chars}
 use Rattle.expander.specs.Expansion.{run}
 use Rattle.expander.proofs.Chains.{goes_then, goes_itself}
 use Rattle.expander.proofs.Exits.{step_refuses}
 use Rattle.expander.proofs.Loops.{next_turn, next_done, next_unread, next_refused}
 use Rattle.expander.proofs.Turns.{turned_first, turned_on, turned_bad, turned_done, turned_refused}
+use Rattle.expander.proofs.Spaces.{past_turn, past_done, past_refused}
+use Rattle.expander.proofs.Spelling.{chars_turn, chars_done, chars_refused, end_agrees}
 use Rattle.expander.proofs.Fitting.{call_fit}
 use Rattle.expander.proofs.expansion.+expand.Goals as goal
 
@@ -65,6 +71,71 @@ next_token-loop-token-preserved g t c =
       fit = c.expand.ensures.fit;
       size = omega (arith, c.in_ok-token.ensures.size, c.in_ok-expand.ensures.size, was.size);
       counted = c.in_ok-expand.ensures.counted ∙ c.in_ok-token.ensures.counted ∙ was.counted;
+    }
+
+pub next_past_spaces-returns-in_err-token-clause-exact : goal.next_past_spaces-returns-in_err-token-clause-exact
+next_past_spaces-returns-in_err-token-clause-exact g t c = λ told.
+    let was = c.loop-token.invariant in
+    let w = world (reading c.loop-token.mouth (g.F.Files.state c.loop-token.files)) c.loop-token.env in
+    let e = c.in_err-token.field-0.0 in
+    let place = place_in c.next_token.new.mouth in
+    step_refuses _ place c.from_residual.result e _ (run PastSpaces w) c.from_residual.ensures (was.same told)
+    (past_refused (step_cause e) w (at_place place e) (c.in_err-token.ensures.exact (was.goes.told told)))
+
+pub next_past_spaces-returns-then-not-is_space_in-clause-exact : goal.next_past_spaces-returns-then-not-is_space_in-clause-exact
+next_past_spaces-returns-then-not-is_space_in-clause-exact g t c = λ told.
+    let was = c.loop-token.invariant in
+    let w = world (reading c.loop-token.mouth (g.F.Files.state c.loop-token.files)) c.loop-token.env in
+    let v = world (reading c.next_token.new.mouth (g.F.Files.state c.next_token.new.files)) c.next_token.new.env in
+    let other : is_space c.in_ok-token.token (around v.nest v.at.names) ≡ false = cc in
+    was.same told ∙ past_done w v c.in_ok-token.token (c.in_ok-token.ensures.exact (was.goes.told told)) other
+
+pub next_past_spaces-loop-token-preserved : goal.next_past_spaces-loop-token-preserved
+next_past_spaces-loop-token-preserved g t c =
+    let was = c.loop-token.invariant in
+    let w = world (reading c.loop-token.mouth (g.F.Files.state c.loop-token.files)) c.loop-token.env in
+    let v = world (reading c.next_token.new.mouth (g.F.Files.state c.next_token.new.files)) c.next_token.new.env in
+    let space : is_space c.in_ok-token.token (around v.nest v.at.names) ≡ true = cc in
+    record {
+      same = λ told. was.same told ∙ past_turn w v c.in_ok-token.token (c.in_ok-token.ensures.exact (was.goes.told told)) space;
+      goes = goes_then c.args.mouth.now c.loop-token.mouth c.next_token.new.mouth (g.F.Files.state c.args.files.now) (g.F.Files.state c.loop-token.files) (g.F.Files.state c.next_token.new.files) was.goes c.next_token.ensures.goes;
+      readable = c.in_ok-token.ensures.readable;
+      fit = c.next_token.ensures.fit;
+      size = omega (arith, c.in_ok-token.ensures.size, was.size);
+      counted = c.in_ok-token.ensures.counted ∙ was.counted;
+    }
+
+pub read_chars-returns-in_err-token-clause-exact : goal.read_chars-returns-in_err-token-clause-exact
+read_chars-returns-in_err-token-clause-exact g t c = λ told.
+    let was = c.loop-chars.invariant in
+    let w = world (reading c.loop-chars.mouth (g.F.Files.state c.loop-chars.files)) c.loop-chars.env in
+    let e = c.in_err-token.field-0.0 in
+    let place = place_in c.next_token.new.mouth in
+    step_refuses _ place c.from_residual.result e _ (run (Chars c.loop-chars.chars) w) c.from_residual.ensures (was.same told)
+    (chars_refused (step_cause e) c.loop-chars.chars w (at_place place e) (c.in_err-token.ensures.exact (was.goes.told told)))
+
+pub read_chars-returns-in_default-clause-exact : goal.read_chars-returns-in_default-clause-exact
+read_chars-returns-in_default-clause-exact g t c = λ told.
+    let was = c.loop-chars.invariant in
+    let w = world (reading c.loop-chars.mouth (g.F.Files.state c.loop-chars.files)) c.loop-chars.env in
+    let v = world (reading c.next_token.new.mouth (g.F.Files.state c.next_token.new.files)) c.next_token.new.env in
+    let none : char_of c.in_ok-token.token ≡ None = cc in
+    rw (was.same told ∙ chars_done c.loop-chars.chars w v c.in_ok-token.token (c.in_ok-token.ensures.exact (was.goes.told told)) none)
+    (end_agrees c.loop-chars.chars v c.in_ok-token.token c.end_of_name.result c.end_of_name.ensures)
+
+pub read_chars-loop-chars-preserved : goal.read_chars-loop-chars-preserved
+read_chars-loop-chars-preserved g t c =
+    let was = c.loop-chars.invariant in
+    let w = world (reading c.loop-chars.mouth (g.F.Files.state c.loop-chars.files)) c.loop-chars.env in
+    let v = world (reading c.next_token.new.mouth (g.F.Files.state c.next_token.new.files)) c.next_token.new.env in
+    let some : char_of c.in_ok-token.token ≡ Some c.in-Some.c = cc in
+    record {
+      same = rw c.in_ok-push.ensures.ok (λ told. was.same told ∙ chars_turn c.loop-chars.chars w v c.in_ok-token.token c.in-Some.c (c.in_ok-token.ensures.exact (was.goes.told told)) some);
+      goes = goes_then c.args.mouth.now c.loop-chars.mouth c.next_token.new.mouth (g.F.Files.state c.args.files.now) (g.F.Files.state c.loop-chars.files) (g.F.Files.state c.next_token.new.files) was.goes c.next_token.ensures.goes;
+      readable = c.in_ok-token.ensures.readable;
+      fit = c.next_token.ensures.fit;
+      size = omega (arith, c.in_ok-token.ensures.size, was.size);
+      counted = c.in_ok-token.ensures.counted ∙ was.counted;
     }
 
 pub scan-returns-in_err-token-clause-exact : goal.scan-returns-in_err-token-clause-exact

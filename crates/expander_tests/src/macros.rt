@@ -8,8 +8,8 @@ ghost use Rattle.mouth.specs.Keeping.{AreOpen, IsReadable};
 ghost use Rattle.macros.specs.Definitions.{IsDefined};
 ghost use Rattle.expander.specs.Holding.{AreFit};
 
-use crate::tests::{Ending, ending_of, held, text_of};
-use crate::{Gullet, GulletFault, environments_stay_fit};
+use crate::bench::{Ending, ending_of, held, prepared, text_of};
+use expander::{Gullet, GulletFault, environments_stay_fit};
 use env_groups::{Env, MacroDef, Meaning};
 use input_codings::Coding;
 use std::alloc::Global;
@@ -45,6 +45,7 @@ fn set_macro(env: &mut Env, name: NameNo, definition: MacroDef) -> Result<(), Gu
     ensures fit { (names : List Spelling) → IsDefined names definition → AreFit names env.old
         → AreFit names env.new }
 {
+    environments_stay_fit();
     match env.set_meaning(name, Meaning::Macro(definition), false) {
         Ok(()) => Ok(()),
         Err(_) => Err(GulletFault::NoMemory),
@@ -188,7 +189,7 @@ fn is_row(alloc: Global, env: &mut Env, row: &Row) -> Result<bool, Fail>
     Ok(ending.fault == Some(row.fault) && ending.line == row.line && text.as_slice() == row.tokens)
 }
 
-const ROWS: [Row; 13] = [
+const ROWS: [Row; 18] = [
     Row {
         source: b"\\a#1{#1#1}\\a{xy}\n",
         macros: 1,
@@ -291,6 +292,51 @@ const ROWS: [Row; 13] = [
         line: 1,
     },
     Row {
+        source: b"{\\the\\toks0 }%",
+        macros: 0,
+        first: First::Expanded,
+        budget: 1,
+        tokens: b"|N\x0f#|",
+        fault: GulletFault::NoEnd,
+        line: 1,
+    },
+    Row {
+        source: b"#1{#\\the\\linepenalty}%",
+        macros: 0,
+        first: First::Expanded,
+        budget: 1,
+        tokens: b"#1|#1=0|",
+        fault: GulletFault::NoEnd,
+        line: 1,
+    },
+    Row {
+        source: b"{\\the\\count0}",
+        macros: 0,
+        first: First::Expanded,
+        budget: 0,
+        tokens: b"",
+        fault: GulletFault::Budget,
+        line: 1,
+    },
+    Row {
+        source: b"{\\input b }",
+        macros: 0,
+        first: First::Expanded,
+        budget: 1,
+        tokens: b"",
+        fault: GulletFault::FileEnded,
+        line: 1,
+    },
+    Row {
+        source: b"\\a{\\csname\\a}\\a",
+        macros: 1,
+        first: First::Nothing,
+        budget: 999,
+        tokens: b"",
+        fault: GulletFault::DepthFull,
+        line: 1,
+    },
+    Row {
         source: b" \\relax{a{\\q}}b%",
         macros: 0,
         first: First::Balanced,
@@ -312,9 +358,8 @@ const ROWS: [Row; 13] = [
 
 // The number of the first row that comes to something else.
 fn first_wrong(alloc: Global, rows: &[Row]) -> Result<Option<usize>, Fail> {
-    environments_stay_fit();
     for i in 0..rows.len() {
-        let mut env = Env::new(alloc).or(Err("memory"))?;
+        let mut env = prepared(alloc).or(Err("memory"))?;
         if !is_row(alloc, &mut env, &rows[i])? {
             return Ok(Some(i));
         }

@@ -1,0 +1,9 @@
+//! Tests of expansion. They stand in a crate of their own, so that expansion is proved once.
+#![tactic(auto)]
+
+#[cfg(test)]
+mod bench;
+#[cfg(test)]
+mod macros;
+#[cfg(test)]
+mod primitives;
