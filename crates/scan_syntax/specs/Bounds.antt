@@ -13,8 +13,8 @@ IsSize sizes.Natural = Unit {0}
 IsSize (sizes.To d) = IsDimen d
 IsSize (sizes.Spread d) = IsDimen d
 
--- An integer, and the measure of a box as it is seen, is within 2^31 - 1; the numbers of glue and the size of a box are within
--- the greatest dimension.
+-- An integer, and the measure of a box as it is seen, is within 2^31 - 1; the numbers of glue and
+-- the size of a box are within the greatest dimension.
 abbrev pub IsWithinBounds : Value → Type 0
 IsWithinBounds (values.Integer n) = IsInt n
 IsWithinBounds (values.Dimen d) = IsInt d.0
