@@ -26,14 +26,14 @@ use Rattle.expander.specs.Definitions.{Part, part, token_fed, is_the, the_stored
 use Rattle.expander.proofs.Falling.{bind_same}
 use Rattle.expander.proofs.Outcomes.{if_weaker, if_bind, if_then, if_fault, if_either}
 use Rattle.expander.proofs.Texts.{begun_falls, ended_size}
-use Rattle.expander.proofs.Sized.{run_falls, token_falls, expand_leaves}
+use Rattle.expander.proofs.Sized.{scan_leaves, token_falls, expand_leaves}
 use Rattle.std.proofs.lemmas.Result.{IfOk-at_ok}
 
 -- ---- each part leaves less
 
 stored_falls : (body : Body) (w : World) → IfOk (the_stored body w) (λ p. size p.rest.at < size w.at)
 stored_falls body w = if_bind (with_fault of_mouth (begun w.at)) _ (λ x. size x + 100000000000 ≡ size w.at) _ (if_fault of_mouth (begun w.at) _ (begun_falls w.at)) (λ x less.
-    if_bind (run (Scan Internal []) (world x w.nest)) _ (λ y. size y.1.at ≤ size x + 1000000) _ (run_falls (Scan Internal []) (world x w.nest)) (λ y few. omega (arith, less, few, ended_size y.1.at)))
+    if_bind (run (Scan Internal []) (world x w.nest)) _ (λ y. size y.1.at ≤ size x) _ (scan_leaves Internal (world x w.nest)) (λ y few. omega (arith, less, few, ended_size y.1.at)))
 
 expanded_falls : (body : Body) (w : World) (t : Token × Reading) → size t.1 < size w.at → IfOk (part_expanded body w t) (λ p. size p.rest.at < size w.at)
 expanded_falls body w t less = either (expands w.nest t.0)

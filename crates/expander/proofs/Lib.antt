@@ -13,7 +13,6 @@ pub mod Texts
 pub mod Sized
 pub mod Scanning
 pub mod Defining
-pub mod Knowing
 pub mod Printing
 pub mod Turns
 pub mod Spaces

@@ -32,3 +32,7 @@ if_either false x y P has other = other
 pub on_ok : {X E : Type 0} (P : Type 0) (a : Result X E) (x : X) → a ≡ Ok x → OnOk a P → P
 on_ok P (Ok y) x is has = has
 on_ok P (Err e) x is has = absurd cc
+
+pub on_ok_weaker : {X E : Type 0} {P Q : Type 0} (a : Result X E) → OnOk a P → (P → Q) → OnOk a Q
+on_ok_weaker (Ok x) has goes = goes has
+on_ok_weaker (Err e) has goes = tt

@@ -1,6 +1,6 @@
 -- What an expansion leaves is no more than what stood after its token, and the next unexpandable token leaves less: so no call
 -- is ever asked of too much.
-use Rattle.std.proofs.Common.{◌≡◌, ◌≤◌, ◌<◌, ◌+◌, ℕ, zero, suc, Bool, true, false, List, [], ◌∷◌, ◌++◌, length, Option, Some, None, Result, Ok, Err, arith, ap, ◌∙◌}
+use Rattle.std.proofs.Common.{◌≡◌, ◌≤◌, ◌<◌, ◌+◌, ℕ, zero, suc, Bool, true, false, List, [], ◌∷◌, ◌++◌, length, Option, Some, None, Result, Ok, Err, arith, ap, ◌∙◌, refl, length-append}
 use Rattle.std.specs.Prelude.{IfOk, if◌then◌else◌, nat_lt, ℤ}
 use Rattle.ts_base.specs.Agreement.{◌>>=◌, with_fault}
 use Rattle.jis_codes.specs.declared.Char.{Char}
@@ -31,6 +31,7 @@ use Rattle.scan_syntax.specs.declared.want.Want.{Want}
 use Rattle.scan_syntax.specs.declared.want.Want.TheVariants as wants
 use Rattle.scan_syntax.specs.declared.want.Value.{Value}
 use Rattle.scan_syntax.specs.Scans.{grammar}
+use Rattle.scan_syntax.proofs.Finding.{no_longer}
 use Rattle.expander.specs.declared.action.Printing.{Printing}
 use Rattle.expander.specs.declared.action.Front.{Front}
 use Rattle.expander.specs.declared.action.Front.TheVariants as fronts
@@ -63,7 +64,7 @@ use Rattle.std.proofs.lemmas.Result.{IfOk-at_ok}
 use Rattle.expander.proofs.Equations.{run_is, below_run}
 use Rattle.expander.proofs.Falling.{bind_same, token_less}
 use Rattle.expander.proofs.Outcomes.{if_weaker, if_bind, if_then, if_fault, if_either}
-use Rattle.expander.proofs.Texts.{ended_size, ending_size, opened_size, changed_size, closed_size, named_falls, file_grows, begun_falls, list_grows, next_falls, plain_falls, skipped_falls, call_falls}
+use Rattle.expander.proofs.Texts.{ended_size, ending_size, opened_size, changed_size, closed_size, named_falls, file_grows, begun_falls, list_grows, with_adds, next_falls, plain_falls, skipped_falls, call_falls}
 
 -- ---- what leaves the environment alone
 
@@ -72,6 +73,9 @@ token_falls nest r = if_fault of_mouth (next (codes_of nest) r) _ (next_falls ne
 
 pub plain_token_falls : (nest : Nest) (r : Reading) → IfOk (plain_from nest r) (λ t. size t.1 < size r)
 plain_token_falls nest r = if_fault of_mouth (next_plain (codes_of nest) r) _ (plain_falls nest r)
+
+pub put_adds : (list : List Token) (r : Reading) → IfOk (put list r) (λ v. size v ≡ size r + length list)
+put_adds list r = if_fault of_mouth (with_list list r) _ (with_adds list r)
 
 pub put_grows : (list : List Token) (r : Reading) → IfOk (put list r) (λ v. size v ≤ size r + 1000000)
 put_grows list r = if_fault of_mouth (with_list list r) _ (list_grows list r)
@@ -203,6 +207,10 @@ shown_grows : (a : Result (List Token) ScanKind) (r : Reading) → IfOk (shown_p
 shown_grows (Ok list) r = put_grows list r
 shown_grows (Err kind) r = tt
 
+pub left_length : (list : List FedToken) → length (left_over list) ≡ length list
+left_length [] = refl
+left_length (x ∷ list) = omega (arith, left_length list)
+
 -- ---- steps
 
 -- how much a call leaves at most
@@ -211,7 +219,7 @@ Leaves Next w t = size t.1.at < size w.at
 Leaves PastSpaces w t = size t.1.at < size w.at
 Leaves (Chars before) w c = size c.1.at < size w.at
 Leaves (Expand token) w v = size v.at ≤ size w.at
-Leaves (Scan want before) w y = size y.1.at ≤ size w.at + 1000000
+Leaves (Scan want before) w y = size y.1.at ≤ size w.at + length before
 
 pub opening_grows : (name : List ℕ) (r : Reading) → IfOk (file_opened name r) (λ v. size v ≤ size r + 65536000000)
 opening_grows name r = if_then (with_fault (λ kind. stopped (faults.Scan kind) r) (source_name name)) _ _ (λ n. if_fault of_mouth (with_file n r) _ (file_grows n r))
@@ -233,6 +241,9 @@ around_falls does w grows = if_bind (with_fault of_mouth (begun w.at)) _ (λ x. 
     if_bind (does (world x w.nest)) _ (λ v. size v.at ≤ size x + 100000000000) _ (grows (world x w.nest)) (λ v few. omega (arith, less, few, ended_size v.at)))
 
 module _ (f : Calls) (fall : AllFall f) where
+  pub scan_falls : (want : Want) (w : World) → IfOk (f (Scan want []) w) (λ y. size y.1.at ≤ size w.at)
+  scan_falls want w = if_weaker (f (Scan want []) w) (λ y. size y.1.at ≤ size w.at + length {A = FedToken} []) _ (fall (Scan want []) w) (λ y few. omega (arith, few))
+
   next_on_falls : (w : World) (t : Token × Reading) → size t.1 < size w.at → IfOk (next_on f w t) (λ u. size u.1.at < size w.at)
   next_on_falls w t less = either (expands w.nest t.0)
     where
@@ -282,12 +293,12 @@ module _ (f : Calls) (fall : AllFall f) where
   plainly token action w = in_world_falls (size w.at) w (acted w.nest token action w.at) (acted_falls w.nest token action w.at)
 
   print_grows : (printing : Printing) (w : World) → IfOk (print_scanned f printing w) (λ v. size v.at ≤ size w.at + 100000000000)
-  print_grows printing w = if_bind (f (Scan (want_of printing) []) w) _ (λ y. size y.1.at ≤ size w.at + 1000000) _ (fall (Scan (want_of printing) []) w) (λ y few.
+  print_grows printing w = if_bind (f (Scan (want_of printing) []) w) _ (λ y. size y.1.at ≤ size w.at) _ (scan_falls (want_of printing) w) (λ y few.
       if_weaker (in_world y.1 (shown_put (shown printing y.0) y.1.at)) (λ v. size v.at ≤ size y.1.at + 1000000) _
       (in_world_falls (size y.1.at + 1000000) y.1 (shown_put (shown printing y.0) y.1.at) (shown_grows (shown printing y.0) y.1.at)) (λ v more. omega (arith, few, more)))
 
   test_grows : (test : NumberTest) (w : World) → IfOk (test_scanned f test w) (λ v. size v.at ≤ size w.at + 100000000000)
-  test_grows test w = if_bind (f (Scan wants.Integer []) (world (opened w.at) w.nest)) _ (λ a. size a.1.at ≤ size (opened w.at) + 1000000) _ (fall (Scan wants.Integer []) (world (opened w.at) w.nest)) (λ a few.
+  test_grows test w = if_bind (f (Scan wants.Integer []) (world (opened w.at) w.nest)) _ (λ a. size a.1.at ≤ size (opened w.at)) _ (scan_falls wants.Integer (world (opened w.at) w.nest)) (λ a few.
       if_weaker (in_world a.1 (number_tested a.1.nest (length w.at.conditionals) test (integer_in a.0) a.1.at)) (λ v. size v.at ≤ size a.1.at) _
       (in_world_falls (size a.1.at) a.1 (number_tested a.1.nest (length w.at.conditionals) test (integer_in a.0) a.1.at) (tested_falls a.1.nest (length w.at.conditionals) test (integer_in a.0) a.1.at))
       (λ v fewer. omega (arith, few, fewer, opened_size w.at)))
@@ -301,9 +312,9 @@ module _ (f : Calls) (fall : AllFall f) where
       if_weaker (related (relation_of t.0) t.1) (λ r. size r.1.at ≤ size t.1.at) _ (related_falls (relation_of t.0) t.1) (λ r few. omega (arith, less, few)))
 
   compare_grows : (want : Want) (w : World) → IfOk (compare_scanned f want w) (λ v. size v.at ≤ size w.at + 100000000000)
-  compare_grows want w = if_bind (f (Scan want []) (world (opened w.at) w.nest)) _ (λ a. size a.1.at ≤ size (opened w.at) + 1000000) _ (fall (Scan want []) (world (opened w.at) w.nest)) (λ a few.
+  compare_grows want w = if_bind (f (Scan want []) (world (opened w.at) w.nest)) _ (λ a. size a.1.at ≤ size (opened w.at)) _ (scan_falls want (world (opened w.at) w.nest)) (λ a few.
       if_bind (relation_read f a.1) _ (λ r. size r.1.at < size a.1.at) _ (relation_falls a.1) (λ r less.
-      if_bind (f (Scan want []) r.1) _ (λ b. size b.1.at ≤ size r.1.at + 1000000) _ (fall (Scan want []) r.1) (λ b more.
+      if_bind (f (Scan want []) r.1) _ (λ b. size b.1.at ≤ size r.1.at) _ (scan_falls want r.1) (λ b more.
       if_weaker (in_world b.1 (decided b.1.nest (length w.at.conditionals) (holds r.0 (amount_in a.0) (amount_in b.0)) b.1.at)) (λ v. size v.at ≤ size b.1.at) _
       (in_world_falls (size b.1.at) b.1 (decided b.1.nest (length w.at.conditionals) (holds r.0 (amount_in a.0) (amount_in b.0)) b.1.at)
       (decided_falls b.1.nest (length w.at.conditionals) (holds r.0 (amount_in a.0) (amount_in b.0)) b.1.at))
@@ -322,7 +333,7 @@ module _ (f : Calls) (fall : AllFall f) where
       if_weaker (name_put c.0 c.1) (λ v. size v.at ≤ size c.1.at + 1000000) _ (name_grows c.0 c.1) (λ v more. omega (arith, less, more)))
 
   input_grows : (w : World) → IfOk (input f w) (λ v. size v.at ≤ size w.at + 100000000000)
-  input_grows w = if_bind (f (Scan wants.FileName []) w) _ (λ y. size y.1.at ≤ size w.at + 1000000) _ (fall (Scan wants.FileName []) w) (λ y few.
+  input_grows w = if_bind (f (Scan wants.FileName []) w) _ (λ y. size y.1.at ≤ size w.at) _ (scan_falls wants.FileName w) (λ y few.
       if_weaker (in_world y.1 (file_opened (name_in y.0) y.1.at)) (λ v. size v.at ≤ size y.1.at + 65536000000) _
       (in_world_falls (size y.1.at + 65536000000) y.1 (file_opened (name_in y.0) y.1.at) (opening_grows (name_in y.0) y.1.at)) (λ v more. omega (arith, few, more)))
 
@@ -359,16 +370,17 @@ module _ (f : Calls) (fall : AllFall f) where
   wanted_falls Expanded w = fall Next w
   wanted_falls Raw w = if_bind (plain_from w.nest w.at) _ (λ t. size t.1 < size w.at) _ (plain_token_falls w.nest w.at) (λ t less. less)
 
-  scan_on_grows : (want : Want) (before : List FedToken) (answer : Answer Value) (w : World) → IfOk (scan_on f want before answer w) (λ y. size y.1.at ≤ size w.at + 1000000)
-  scan_on_grows want before (Got value context rest) w = if_bind (put (left_over rest) w.at) _ (λ v. size v ≤ size w.at + 1000000) _ (put_grows (left_over rest) w.at) (λ v more. more)
-  scan_on_grows want before (Bad kind) w = tt
-  scan_on_grows want before (Needs form) w = if_bind (wanted f form w) _ (λ t. size t.1.at < size w.at) _ (wanted_falls form w) (λ t less.
-      if_weaker (f (Scan want (before ++ fed_in t.1 t.0 ∷ [])) t.1) (λ y. size y.1.at ≤ size t.1.at + 1000000) _ (fall (Scan want (before ++ fed_in t.1 t.0 ∷ [])) t.1)
-      (λ y more. omega (arith, less, more)))
+  scan_on_grows : (want : Want) (before : List FedToken) (answer : Answer Value) (w : World) → grammar want before ≡ answer → IfOk (scan_on f want before answer w) (λ y. size y.1.at ≤ size w.at + length before)
+  scan_on_grows want before (Got value context rest) w is = if_bind (put (left_over rest) w.at) _ (λ v. size v ≡ size w.at + length (left_over rest)) _ (put_adds (left_over rest) w.at) (λ v more.
+      omega (arith, more, left_length rest, no_longer want before rest value context is))
+  scan_on_grows want before (Bad kind) w is = tt
+  scan_on_grows want before (Needs form) w is = if_bind (wanted f form w) _ (λ t. size t.1.at < size w.at) _ (wanted_falls form w) (λ t less.
+      if_weaker (f (Scan want (before ++ fed_in t.1 t.0 ∷ [])) t.1) (λ y. size y.1.at ≤ size t.1.at + length (before ++ fed_in t.1 t.0 ∷ [])) _ (fall (Scan want (before ++ fed_in t.1 t.0 ∷ [])) t.1)
+      (λ y more. omega (arith, less, more, length-append before (fed_in t.1 t.0 ∷ []))))
 
-  scan_step_grows : (want : Want) (before : List FedToken) (w : World) → IfOk (scan_step f want before w) (λ y. size y.1.at ≤ size w.at + 1000000)
+  scan_step_grows : (want : Want) (before : List FedToken) (w : World) → IfOk (scan_step f want before w) (λ y. size y.1.at ≤ size w.at + length before)
   unfolding scan_step
-  scan_step_grows want before w = scan_on_grows want before (grammar want before) w
+  scan_step_grows want before w = scan_on_grows want before (grammar want before) w refl
 
   pub step_falls : AllFall (step f)
   step_falls Next w = next_step_falls w
@@ -403,8 +415,11 @@ expand_size token w v is = IfOk-at_ok (λ (u : World). size u.at ≤ size w.at) 
 pub next_size : (w : World) (t : Token × World) → run Next w ≡ Ok t → size t.1.at < size w.at
 next_size w t is = IfOk-at_ok (λ (u : Token × World). size u.1.at < size w.at) is (next_leaves w)
 
-pub scan_size : (want : Want) (before : List FedToken) (w : World) (y : Value × World) → run (Scan want before) w ≡ Ok y → size y.1.at ≤ size w.at + 1000000
-scan_size want before w y is = IfOk-at_ok (λ (u : Value × World). size u.1.at ≤ size w.at + 1000000) is (run_falls (Scan want before) w)
+pub scan_leaves : (want : Want) (w : World) → IfOk (run (Scan want []) w) (λ y. size y.1.at ≤ size w.at)
+scan_leaves want w = scan_falls run run_falls want w
+
+pub scan_size : (want : Want) (w : World) (y : Value × World) → run (Scan want []) w ≡ Ok y → size y.1.at ≤ size w.at
+scan_size want w y is = IfOk-at_ok (λ (u : Value × World). size u.1.at ≤ size w.at) is (scan_leaves want w)
 
 pub relation_size : (w : World) (r : Relation × World) → relation_read run w ≡ Ok r → size r.1.at < size w.at
 relation_size w r is = IfOk-at_ok (λ (u : Relation × World). size u.1.at < size w.at) is (relation_falls run run_falls w)

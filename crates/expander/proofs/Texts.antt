@@ -1,18 +1,20 @@
 -- What reading without expansion makes of how much may still be read.
-use Rattle.std.proofs.Common.{◌≡◌, ◌≤◌, ◌<◌, ◌+◌, ℕ, zero, suc, Bool, List, [], ◌∷◌, Result, Ok, refl, arith}
+use Rattle.std.proofs.Common.{◌≡◌, ◌≤◌, ◌<◌, ◌+◌, ℕ, zero, suc, Bool, List, [], ◌∷◌, Result, Ok, refl, arith, length-append}
 use Rattle.std.specs.Prelude.{IfOk, not, ◌&&◌, nat_le, length, Option, Some, None}
 use Rattle.ts_base.specs.Agreement.{with_fault}
 use Rattle.ts_outside.specs.Reading.{bytes_of}
 use Rattle.input_codings.specs.declared.coding.Coding.{Coding}
 use Rattle.tok_lists.specs.declared.spelling.Spelling.{Spelling}
 use Rattle.tok_lists.specs.Names.{numbered, with_name}
+use Rattle.tok_lists.specs.Pending.{put_before}
+use Rattle.std.proofs.lemmas.Result.{IfOk-at_ok}
 use Rattle.kcat_eyes.specs.Sights.{ahead}
 use Rattle.mouth.specs.Opening.{first_file, with_file}
 use Rattle.tok_lists.specs.declared.token.Token.{Token}
 use Rattle.env_groups.specs.declared.meaning.MacroDef.{MacroDef}
 use Rattle.env_groups.specs.Environments.{Nest, codes_of}
 use Rattle.mouth.specs.declared.allowed.Allowed.{Allowed}
-use Rattle.mouth.specs.Reading.{Reading, Stop, stop, of_names, of_open, with_names}
+use Rattle.mouth.specs.Reading.{Reading, Stop, stop, of_names, of_pending, of_open, with_names}
 use Rattle.mouth.specs.Tokens.{next, plain, next_plain}
 use Rattle.mouth.specs.Changes.{with_list, named, begun, ended, ending, opened, changed, closed, entered, left}
 use Rattle.mouth.specs.Sizes.{file_size, unread, size}
@@ -71,6 +73,17 @@ begun_falls r = if_given (begun r) _ (λ v is. begun_size r v is)
 
 pub list_grows : (list : List Token) (r : Reading) → IfOk (with_list list r) (λ v. size v ≤ size r + 1000000)
 list_grows list r = if_given (with_list list r) _ (λ v is. list_size list r v is)
+
+pending_adds : (list pending : List Token) → IfOk (put_before list pending) (λ p. length p ≡ length list + length pending)
+pending_adds list pending = if_either (nat_le (length list + length pending) 1000000) _ _ _ (length-append list pending) tt
+
+pub with_adds : (list : List Token) (r : Reading) → IfOk (with_list list r) (λ v. size v ≡ size r + length list)
+unfolding size unread
+with_adds list r = if_bind (with_fault (λ f. stop (of_pending f) r) (put_before list r.innermost.pending)) _ (λ p. length p ≡ length list + length r.innermost.pending) _
+    (if_fault (λ f. stop (of_pending f) r) (put_before list r.innermost.pending) _ (pending_adds list r.innermost.pending)) (λ p same. omega (arith, same))
+
+pub list_adds : (list : List Token) (r v : Reading) → with_list list r ≡ Ok v → size v ≡ size r + length list
+list_adds list r v is = IfOk-at_ok (λ (u : Reading). size u ≡ size r + length list) is (with_adds list r)
 
 names_size : (names : List Spelling) (r : Reading) → size (with_names r names) ≡ size r
 unfolding size unread

@@ -63,7 +63,7 @@ compare_same : (k : ℕ) (want : Want) (w : World) → 8 * size w.at + 700000000
 compare_same k want w less =
     rw (below_run k (Scan want []) (world (opened w.at) w.nest) (omega (arith, less, opened_size w.at)))
     (bind_same (run (Scan want []) (world (opened w.at) w.nest)) _ _ (λ a first.
-    let few = scan_size want [] (world (opened w.at) w.nest) a first in
+    let few = scan_size want (world (opened w.at) w.nest) a first in
     rw (relation_same k a.1 (omega (arith, less, few, opened_size w.at)))
     (bind_same (relation_read run a.1) _ _ (λ r second.
     let fewer = relation_size a.1 r second in

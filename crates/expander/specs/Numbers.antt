@@ -7,7 +7,6 @@ use Rattle.tok_lists.specs.declared.token.Token.{Token}
 use Rattle.mouth.specs.Reading.{Reading}
 use Rattle.scan_numbers.specs.declared.fault.ScanKind.{ScanKind}
 use Rattle.scan_numbers.specs.declared.fault.ScanKind.TheVariants.{CodeRange}
-use Rattle.scan_numbers.specs.Quantities.{narrowed}
 use Rattle.scan_syntax.specs.declared.want.Want.{Want}
 use Rattle.scan_syntax.specs.declared.want.Want.TheVariants as wants
 use Rattle.scan_syntax.specs.declared.want.Value.{Value}
@@ -56,10 +55,9 @@ value_shown (values.Glue g) = printed_glue g
 value_shown (values.Toks list) = list
 value_shown _ = []
 
--- No integer is further from 0 than 2^31 - 1.
 abbrev pub shown : Printing → Value → Result (List Token) ScanKind
 shown printings.Number value = Ok (printed_number (integer_in value))
-shown printings.RomanNumeral value = Ok (printed_roman (narrowed (integer_in value)))
+shown printings.RomanNumeral value = Ok (printed_roman (integer_in value))
 shown printings.The value = Ok (value_shown value)
 shown printings.Jis value = code_shown (japanese_at jis (integer_in value))
 shown printings.Euc value = code_shown (japanese_at euc (integer_in value))

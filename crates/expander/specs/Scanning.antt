@@ -1,17 +1,12 @@
 -- Scans of what expansion gives (The TeXbook, chapter 24).
-use Rattle.std.specs.Prelude.{Bool, true, false, nat_lt, List, length, map, Ok}
-use Rattle.std.specs.List.{list_all}
+use Rattle.std.specs.Prelude.{Bool, true, false, List, map, Ok}
 use Rattle.ts_base.specs.Agreement.{◌>>=◌}
-use Rattle.tok_lists.specs.declared.spelling.Spelling.{Spelling}
 use Rattle.tok_lists.specs.declared.token.Token.{Token}
-use Rattle.tok_lists.specs.declared.token.Token.TheVariants as tokens
 use Rattle.env_groups.specs.Environments.{Nest}
 use Rattle.mouth.specs.Reading.{Reading}
 use Rattle.scan_numbers.specs.Contexts.{around}
 use Rattle.scan_numbers.specs.Tokens.{FedToken, fed}
 use Rattle.scan_numbers.specs.Answers.{Form, Expanded, Raw}
-use Rattle.scan_syntax.specs.declared.want.Value.{Value}
-use Rattle.scan_syntax.specs.declared.want.Value.TheVariants as values
 use Rattle.expander.specs.Worlds.{World, world, Outcome, put}
 
 -- a token, with the environment and the names with which it is fed
@@ -30,20 +25,3 @@ left_over list = map (λ (x : FedToken). x.token) list
 -- What is left is put back, in its order, and what was found is given.
 abbrev pub given_back : {A : Type 0} → A → List Token → Nest → Reading → Outcome (A × World)
 given_back value list nest r = put list r >>= λ at. Ok (value, world at nest)
-
--- ---- what can be put in front
-
--- a token that is no parameter, whose name is held
-abbrev pub is_known : List Spelling → Token → Bool
-is_known names (tokens.Char code cat) = true
-is_known names (tokens.Ja cell) = true
-is_known names (tokens.Name name) = nat_lt name.0 (length names)
-is_known names (tokens.Kept name) = nat_lt name.0 (length names)
-is_known names (tokens.Param n) = false
-
-abbrev pub are_known : List Spelling → List Token → Bool
-are_known names list = list_all (λ token. is_known names token) list
-
-abbrev pub value_known : List Spelling → Value → Bool
-value_known names (values.Toks list) = are_known names list
-value_known names _ = true

@@ -5,6 +5,7 @@ ghost use Rattle.ts_base.specs.Agreement.{Counts};
 ghost use Rattle.mouth.specs.Keeping.{reading, AgreesAt, AreOpen, AreTold, IsReadable, IsToken};
 ghost use Rattle.mouth.specs.Tokens.{plain as the_plain};
 ghost use Rattle.mouth.specs.Sizes.{size};
+ghost use Rattle.scan_syntax.specs.Bounds.{IsWithinBounds};
 ghost use Rattle.expander.specs.Faults.{step_cause};
 ghost use Rattle.expander.specs.Worlds.{world};
 ghost use Rattle.expander.specs.Holding.{AreFit, Goes, IsListed, IsPlainList};
@@ -336,8 +337,9 @@ pub(crate) fn scan<F: Files>(
     ensures readable { OnOk result (IsReadable mouth.new) }
     ensures fit { AreFit mouth.new.names env.new }
     ensures listed { IfOk result (IsListed (IsPlainList mouth.new.names)) }
+    ensures within { IfOk result IsWithinBounds }
     ensures size { OnOk result (size (reading mouth.new (F.state files.new))
-        ≤ size (reading mouth.old (F.state files.old)) + 1000000) }
+        ≤ size (reading mouth.old (F.state files.old))) }
     ensures counted { Counts step_cause result (F.state files.old).faults
         (F.state files.new).faults }
 {

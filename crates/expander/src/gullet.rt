@@ -14,6 +14,7 @@ ghost use Rattle.mouth.specs.Changes.{with_list, spent};
 ghost use Rattle.mouth.specs.Opening.{started, before_lines};
 ghost use Rattle.mouth.specs.Sizes.{size};
 ghost use Rattle.mouth.specs.Keeping.{numbers, reading, place_in, AgreesAt, AreOpen, AreTold, IsReadable, IsToken, KeepsFiles, LeavesOthers};
+ghost use Rattle.scan_syntax.specs.Bounds.{IsWithinBounds};
 ghost use Rattle.expander.specs.GulletFaults.{gullet_cause, of_mouth_fault, of_step_fault, stop_as, IsStartFault};
 ghost use Rattle.expander.specs.Worlds.{world};
 ghost use Rattle.expander.specs.Holding.{AreFit, Goes, IsListed, IsPlainList};
@@ -153,8 +154,9 @@ impl Gullet {
         ensures readable { OnOk result (IsReadable self.new) }
         ensures fit { AreFit self.new.names env.new }
         ensures listed { IfOk result (IsListed (IsPlainList self.new.names)) }
+        ensures within { IfOk result IsWithinBounds }
         ensures size { OnOk result (size (reading self.new (F.state files.new))
-            ≤ size (reading self.old (F.state files.old)) + 1000000) }
+            ≤ size (reading self.old (F.state files.old))) }
         ensures counted { Counts gullet_cause result (F.state files.old).faults
             (F.state files.new).faults }
     {

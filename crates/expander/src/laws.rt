@@ -1,7 +1,7 @@
 //! Laws of expansion. The lemmas that proofs cite for them stand in `proofs/Unguarded.antt` and
 //! `proofs/Sized.antt`.
 
-ghost use Rattle.std.specs.Prelude.{◌≡◌, ◌≤◌, ◌<◌, ◌↔◌, ℕ, Bool, List, Ok, IfOk, IsTrue};
+ghost use Rattle.std.specs.Prelude.{◌≡◌, ◌≤◌, ◌<◌, ◌↔◌, ℕ, Bool, List, [], Ok, IfOk, IsTrue};
 ghost use Rattle.tok_lists.specs.declared.token.Token.{Token};
 ghost use Rattle.tok_lists.specs.declared.spelling.Spelling.{Spelling};
 ghost use Rattle.tok_lists.specs.Names.{Grew};
@@ -34,13 +34,15 @@ pub fn expansion_is_its_steps()
         → run (Scan want before) w ≡ scan_step run want before w }
 {}
 
-/// What an expansion leaves is no more than what stood after its token, and the next unexpandable
-/// token leaves less than there was.
-#[tactic(auto, using(crate::proofs::Sized::expand_leaves, crate::proofs::Sized::next_leaves))]
+/// What an expansion leaves is no more than what stood after its token, the next unexpandable token
+/// leaves less than there was, and a scan no more.
+#[tactic(auto, using(crate::proofs::Sized::expand_leaves, crate::proofs::Sized::next_leaves, crate::proofs::Sized::scan_leaves))]
 pub fn expansions_leave_less()
     ensures expand { (token : Token) (w : World)
         → IfOk (run (Expand token) w) (λ v. size v.at ≤ size w.at) }
     ensures next { (w : World) → IfOk (run Next w) (λ t. size t.1.at < size w.at) }
+    ensures scan { (want : Want) (w : World)
+        → IfOk (run (Scan want []) w) (λ y. size y.1.at ≤ size w.at) }
 {}
 
 /// A body that is expanded reads a part, and where there is more it goes on in the same way.

@@ -4,7 +4,8 @@ ghost use Rattle.std.specs.Prelude.{◌≡◌, ◌≤◌, ◌+◌, IfOk};
 ghost use Rattle.ts_base.specs.Agreement.{Agrees, Uncounted, with_fault};
 ghost use Rattle.ts_outside.specs.States.{FilesState};
 ghost use Rattle.jis_codes.specs.Spellings.{jis, euc, shift_jis, kuten};
-ghost use Rattle.scan_numbers.specs.Quantities.{narrowed as the_narrowed};
+ghost use Rattle.env_groups.specs.Bounds.{IsInt};
+ghost use Rattle.scan_syntax.specs.Bounds.{IsWithinBounds};
 ghost use Rattle.mouth.specs.Keeping.{reading, AgreesAt, KeepsFiles};
 ghost use Rattle.mouth.specs.Sizes.{size};
 ghost use Rattle.expander.specs.declared.fault.StepFault.TheVariants as faults;
@@ -40,7 +41,9 @@ pub(crate) fn want_of(printing: Printing) -> Want
 
 /// Returns the integer that a scan found, and 0 where it found another value.
 pub(crate) fn integer_in(value: &Value) -> i64
-    ensures { result ≡ the_integer value.now }
+    requires { IsWithinBounds value.now }
+    ensures value { result ≡ the_integer value.now }
+    ensures within { IsInt result }
 {
     match value {
         Value::Integer(n) => *n,
@@ -109,28 +112,16 @@ pub(crate) fn value_shown(alloc: Global, value: &Value) -> Result<SharedTokens, 
     }
 }
 
-// An integer within 2^31 - 1 of 0, as every integer is.
-fn narrowed(n: i64) -> i32
-    ensures { result ≡ the_narrowed n }
-{
-    if n < -2_147_483_647 {
-        -2_147_483_647
-    } else if n > 2_147_483_647 {
-        2_147_483_647
-    } else {
-        n as i32
-    }
-}
-
 // What a value is printed as.
 fn shown(alloc: Global, printing: Printing, value: &Value) -> Result<SharedTokens, StepFault>
+    requires { IsWithinBounds value.now }
     ensures exact { Agrees (λ tokens. tokens) step_cause result
         (with_fault (λ kind. faults.Scan kind) (the_shown printing value.now)) }
     ensures quiet { Uncounted step_cause result }
 {
     match printing {
         Printing::Number => Ok(number(alloc, integer_in(value))?),
-        Printing::RomanNumeral => Ok(roman_numeral(alloc, narrowed(integer_in(value)))?),
+        Printing::RomanNumeral => Ok(roman_numeral(alloc, integer_in(value) as i32)?),
         Printing::The => Ok(value_shown(alloc, value)?),
         Printing::Jis => code_shown(alloc, jis_cell(integer_in(value))),
         Printing::Euc => code_shown(alloc, euc_cell(integer_in(value))),
@@ -148,6 +139,7 @@ pub(crate) fn put_shown(
     value: &Value,
 ) -> Result<(), StepFault>
     requires listed { IsListed (IsPlainList mouth.old.names) value.now }
+    requires within { IsWithinBounds value.now }
     ensures exact { (state : FilesState) → AgreesAt (λ _. reading mouth.new state) step_cause
         mouth.new result (shown_put (the_shown printing value.now) (reading mouth.old state)) }
     ensures files { KeepsFiles mouth.old mouth.new }

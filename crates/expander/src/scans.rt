@@ -1,6 +1,6 @@
 //! What a scan leaves and finds.
 
-ghost use Rattle.std.specs.Prelude.{◌≡◌, ◌≤◌, ◌+◌, IfOk};
+ghost use Rattle.std.specs.Prelude.{◌≡◌, ◌+◌, length, IfOk, OnOk};
 ghost use Rattle.ts_base.specs.Agreement.{Uncounted};
 ghost use Rattle.ts_outside.specs.States.{FilesState};
 ghost use Rattle.env_groups.specs.Environments.{Nest};
@@ -11,7 +11,8 @@ ghost use Rattle.scan_numbers.specs.Tokens.{is_space as the_is_space};
 ghost use Rattle.expander.specs.Faults.{step_cause};
 ghost use Rattle.expander.specs.Worlds.{world, put};
 ghost use Rattle.expander.specs.Holding.{IsListed, IsPlainList};
-ghost use Rattle.expander.specs.Scanning.{given_back, is_known as the_known, are_known as the_all_known, value_known as the_value_known};
+ghost use Rattle.expander.specs.Scanning.{given_back};
+ghost use Rattle.scan_syntax.specs.Bounds.{IsWithinBounds};
 
 use crate::fault::StepFault;
 use crate::steps::push;
@@ -21,7 +22,6 @@ use scan_numbers::{Context, is_space};
 use scan_syntax::Value;
 use std::alloc::Global;
 use tok_lists::{Names, SharedTokens, Token, Tokens};
-use ts_base::NoMemory;
 
 /// Returns whether a token is a space, explicit or implicit.
 pub(crate) fn is_space_in(token: &Token, names: &Names, env: &Env) -> bool
@@ -30,58 +30,19 @@ pub(crate) fn is_space_in(token: &Token, names: &Names, env: &Env) -> bool
     is_space(token, &Context::new(env, names))
 }
 
-fn is_known(names: &Names, token: Token) -> bool
-    ensures { result ≡ the_known names.now token }
-{
-    match token {
-        Token::Char(_, _) | Token::Ja(_) => true,
-        Token::Name(name) | Token::Kept(name) => (name.0 as usize) < names.len(),
-        Token::Param(_) => false,
-    }
-}
-
-fn are_known(names: &Names, list: &[Token]) -> bool
-    ensures { result ≡ the_all_known names.now list.now }
-{
-    list.iter().all(|token| is_known(names, *token))
-}
-
-fn value_known(names: &Names, value: &Value) -> bool
-    ensures { result ≡ the_value_known names.now value.now }
-{
-    match value {
-        Value::Toks(list) => are_known(names, list.as_slice()),
-        _ => true,
-    }
-}
-
-// Puts back what a scan left. It is of the tokens that were fed, whose names are held; that they
-// are is tested here, since a scan knows of no names that are held.
+// Puts back what a scan left.
 fn put_list(alloc: Global, mouth: &mut Mouth, tokens: &Tokens) -> Result<(), StepFault>
+    requires known { IsPlainList mouth.old.names tokens.now }
     ensures exact { (state : FilesState) → AgreesAt (λ _. reading mouth.new state) step_cause
         mouth.new result (put tokens.now (reading mouth.old state)) }
     ensures files { KeepsFiles mouth.old mouth.new }
     ensures names { mouth.new.names ≡ mouth.old.names }
     ensures quiet { Uncounted step_cause result }
-    ensures size { (state : FilesState) → size (reading mouth.new state)
-        ≤ size (reading mouth.old state) + 1000000 }
+    ensures size { OnOk result ((state : FilesState) → size (reading mouth.new state)
+        ≡ size (reading mouth.old state) + length tokens.now) }
 {
-    if !are_known(mouth.names(), tokens.as_slice()) {
-        return Err(StepFault::from(NoMemory));
-    }
     let list = SharedTokens::new(alloc, tokens.as_slice())?;
     push(mouth, &list)
-}
-
-// Gives what a scan found. A list is what the environment holds, whose names are held; that they
-// are is tested here too.
-#[tactic(auto, using(crate::proofs::Knowing::known_value))]
-fn found(names: &Names, value: Value) -> Result<Value, NoMemory>
-    ensures value { IfOk result (λ found. found ≡ value) }
-    ensures listed { IfOk result (IsListed (IsPlainList names.now)) }
-{
-    let known = value_known(names, &value);
-    if known { Ok(value) } else { Err(NoMemory) }
 }
 
 /// Puts back what a scan left, and gives what it found.
@@ -91,17 +52,20 @@ pub(crate) fn give_back(
     value: Value,
     tokens: &Tokens,
 ) -> Result<Value, StepFault>
+    requires known { IsPlainList mouth.old.names tokens.now }
+    requires listed { IsListed (IsPlainList mouth.old.names) value }
+    requires within { IsWithinBounds value }
     ensures exact { (state : FilesState) (nest : Nest)
         → AgreesAt (λ found. (found, world (reading mouth.new state) nest)) step_cause
         mouth.new result (given_back value tokens.now nest (reading mouth.old state)) }
     ensures listed { IfOk result (IsListed (IsPlainList mouth.new.names)) }
+    ensures within { IfOk result IsWithinBounds }
     ensures files { KeepsFiles mouth.old mouth.new }
     ensures names { mouth.new.names ≡ mouth.old.names }
     ensures quiet { Uncounted step_cause result }
-    ensures size { (state : FilesState) → size (reading mouth.new state)
-        ≤ size (reading mouth.old state) + 1000000 }
+    ensures size { OnOk result ((state : FilesState) → size (reading mouth.new state)
+        ≡ size (reading mouth.old state) + length tokens.now) }
 {
-    let value = found(mouth.names(), value)?;
     put_list(alloc, mouth, tokens)?;
     Ok(value)
 }

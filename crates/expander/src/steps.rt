@@ -1,6 +1,6 @@
 //! Steps of the mouth, with the faults of expansions.
 
-ghost use Rattle.std.specs.Prelude.{◌≡◌, ◌≤◌, ◌<◌, ◌+◌, OnOk, IfOk};
+ghost use Rattle.std.specs.Prelude.{◌≡◌, ◌≤◌, ◌<◌, ◌+◌, length, OnOk, IfOk};
 ghost use Rattle.ts_base.specs.Agreement.{Counts, Uncounted, with_fault};
 ghost use Rattle.ts_outside.specs.States.{FilesState};
 ghost use Rattle.tok_lists.specs.Names.{AreHeld, HasNoParam};
@@ -85,6 +85,8 @@ pub(crate) fn push(mouth: &mut Mouth, list: &SharedTokens) -> Result<(), StepFau
     ensures quiet { Uncounted step_cause result }
     ensures size { (state : FilesState) → size (reading mouth.new state)
         ≤ size (reading mouth.old state) + 1000000 }
+    ensures grows { OnOk result ((state : FilesState) → size (reading mouth.new state)
+        ≡ size (reading mouth.old state) + length list.now) }
 {
     Ok(mouth.push_list(list)?)
 }

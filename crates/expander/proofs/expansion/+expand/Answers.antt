@@ -13,7 +13,8 @@ use Rattle.expander.specs.Expansion.{run}
 use Rattle.expander.proofs.Chains.{goes_then, goes_itself}
 use Rattle.expander.proofs.Exits.{step_refuses}
 use Rattle.expander.proofs.Loops.{next_turn, next_done, next_unread, next_refused}
-use Rattle.expander.proofs.Turns.{turned_first, turned_on, turned_bad, turned_done, turned_refused}
+use Rattle.expander.proofs.Turns.{turned_first, turned_on, turned_bad, turned_done, turned_refused, back_known, found_listed, back_fewer}
+use Rattle.expander.proofs.Outcomes.{on_ok_weaker}
 use Rattle.expander.proofs.Spaces.{past_turn, past_done, past_refused}
 use Rattle.expander.proofs.Spelling.{chars_turn, chars_done, chars_refused, end_agrees}
 use Rattle.expander.proofs.Fitting.{call_fit}
@@ -153,7 +154,7 @@ scan-loop-scan-preserved-in-Ok-Expanded g t c =
     let exact = rw c.names.ensures at (rw c.in-Ok-Expanded.field-0-is at c.in-Ok-Expanded.ensures.exact) in
     record {
       turned = turned_on _ c.args.want c.loop-scan.raw false _ _ _ _ _ c.in_ok-token.token was.turned (λ told. c.in_ok-token.ensures.exact (was.goes.told told))
-          stands exact;
+          stands exact c.take_wanted.ensures.goes.names c.in_ok-token.ensures.token c.in_ok-token.ensures.size;
       goes = goes_then c.args.mouth.now c.loop-scan.mouth c.take_wanted.new.mouth (g.F.Files.state c.args.files.now) (g.F.Files.state c.loop-scan.files) (g.F.Files.state c.take_wanted.new.files) was.goes c.take_wanted.ensures.goes;
       readable = c.in_ok-token.ensures.readable;
       fit = c.take_wanted.ensures.fit;
@@ -168,7 +169,7 @@ scan-loop-scan-preserved g t c =
     let exact = rw c.names.ensures at (rw c.in-Ok-Raw.field-0-is at c.in-Ok-Raw.ensures.exact) in
     record {
       turned = turned_on _ c.args.want c.loop-scan.raw true _ _ _ _ _ c.in_ok-token.token was.turned (λ told. c.in_ok-token.ensures.exact (was.goes.told told))
-          stands exact;
+          stands exact c.take_wanted.ensures.goes.names c.in_ok-token.ensures.token c.in_ok-token.ensures.size;
       goes = goes_then c.args.mouth.now c.loop-scan.mouth c.take_wanted.new.mouth (g.F.Files.state c.args.files.now) (g.F.Files.state c.loop-scan.files) (g.F.Files.state c.take_wanted.new.files) was.goes c.take_wanted.ensures.goes;
       readable = c.in_ok-token.ensures.readable;
       fit = c.take_wanted.ensures.fit;
@@ -198,3 +199,25 @@ scan-loop-scan-init g t c = record {
   size = omega arith;
   counted = refl;
 }
+
+pub scan-give_back-requires-clause-known : goal.scan-give_back-requires-clause-known
+scan-give_back-requires-clause-known g t c =
+    let v = world (reading c.take_wanted.new.mouth (g.F.Files.state c.take_wanted.new.files)) c.take_wanted.new.env in
+    let exact = rw c.names.ensures at (rw c.in-Ok-Done.field-0-is at c.in-Ok-Done.ensures.exact) in
+    back_known _ c.args.want c.loop-scan.raw _ _ _ v c.in_ok-token.token _ _ c.loop-scan.invariant.turned exact c.take_wanted.ensures.goes.names c.in_ok-token.ensures.token
+
+pub scan-give_back-requires-clause-listed : goal.scan-give_back-requires-clause-listed
+scan-give_back-requires-clause-listed g t c =
+    let v = world (reading c.take_wanted.new.mouth (g.F.Files.state c.take_wanted.new.files)) c.take_wanted.new.env in
+    let exact = rw c.names.ensures at (rw c.in-Ok-Done.field-0-is at c.in-Ok-Done.ensures.exact) in
+    found_listed _ c.args.want c.loop-scan.raw _ _ _ v c.in_ok-token.token _ _ c.loop-scan.invariant.turned exact c.take_wanted.ensures.fit
+
+pub scan-give_back-requires-clause-within : goal.scan-give_back-requires-clause-within
+scan-give_back-requires-clause-within g t c = rw c.in-Ok-Done.field-0-is at c.in-Ok-Done.ensures.within
+
+pub scan-returns-in-Ok-Done-clause-size : goal.scan-returns-in-Ok-Done-clause-size
+scan-returns-in-Ok-Done-clause-size g t c =
+    let v = world (reading c.take_wanted.new.mouth (g.F.Files.state c.take_wanted.new.files)) c.take_wanted.new.env in
+    let exact = rw c.names.ensures at (rw c.in-Ok-Done.field-0-is at c.in-Ok-Done.ensures.exact) in
+    let few = back_fewer _ c.args.want c.loop-scan.raw _ _ _ v c.in_ok-token.token _ _ c.loop-scan.invariant.turned exact c.in_ok-token.ensures.size in
+    on_ok_weaker c.give_back.result c.give_back.ensures.size (λ adds. omega (arith, few, adds (g.F.Files.state c.take_wanted.new.files)))
