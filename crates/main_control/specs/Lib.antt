@@ -1,0 +1,9 @@
+pub mod Recursion
+pub mod Endings
+pub mod Bodies
+pub mod Worlds
+pub mod Commands
+pub mod Groups
+pub mod Turn
+pub mod Run
+pub mod Standing
