@@ -1,5 +1,5 @@
 -- An environment stays fit for expansion as names come.
-use Rattle.std.proofs.Common.{◌≡◌, ℕ, List, [], ◌∷◌, Option, Some, None, IfSome, arith, lit≤, Bool, Ok}
+use Rattle.std.proofs.Common.{◌≡◌, ℕ, ℤ, List, [], ◌∷◌, Option, Some, None, IfSome, arith, lit≤, Bool, Ok}
 use Rattle.tok_lists.specs.declared.spelling.Spelling.{Spelling}
 use Rattle.tok_lists.specs.declared.token.Token.{Token}
 use Rattle.tok_lists.specs.Names.{Grew, AreHeld}
@@ -7,11 +7,20 @@ use Rattle.tok_lists.proofs.Growing.{held_still, all_held_still, grew_longer}
 use Rattle.env_groups.specs.declared.meaning.MacroDef.{MacroDef}
 use Rattle.env_groups.specs.declared.meaning.Meaning.{Meaning}
 use Rattle.env_groups.specs.declared.meaning.Meaning.TheVariants as meanings
-use Rattle.env_groups.specs.Environments.{Environment, Nest, start, meaning_at, meaning_set, toks_set, group_opened, group_closed, toks_at}
+use Rattle.env_groups.specs.Environments.{Environment, Nest, start, meaning_at, meaning_set, int_set, dim_set, glue_set, toks_set, box_set, box_replaced, code_set, font_set, group_opened, group_closed, toks_at}
 use Rattle.env_groups.specs.StartMeanings.{primitive_or_none, start_prims}
 use Rattle.env_groups.specs.declared.prim.PrimitiveName.{PrimitiveName}
 use Rattle.env_groups.specs.Laws.{HaveValues}
-use Rattle.env_groups.proofs.Keeping.{meaning_has, start_has, meaning_keeps, toks_has, toks_keeps, open_keeps, close_keeps}
+use Rattle.env_groups.proofs.Keeping.{meaning_has, start_has, meaning_keeps, int_keeps, dim_keeps, glue_keeps, toks_has, toks_keeps, box_keeps, replace_keeps, code_keeps, font_keeps, open_keeps, close_keeps}
+use Rattle.ts_geometry.specs.declared.glue.Glue.{Glue}
+use Rattle.ts_geometry.specs.declared.measure.Sp.{Sp}
+use Rattle.box_tree.specs.Trees.{BoxTree}
+use Rattle.box_tree.specs.declared.item.FontNo.{FontNo}
+use Rattle.env_groups.specs.declared.font.FontSlot.{FontSlot}
+use Rattle.env_groups.specs.declared.code.CodeKey.{CodeKey}
+use Rattle.env_groups.specs.declared.key.IntKey.{IntKey}
+use Rattle.env_groups.specs.declared.key.DimKey.{DimKey}
+use Rattle.env_groups.specs.declared.key.GlueKey.{GlueKey}
 use Rattle.env_groups.specs.declared.key.ToksKey.{ToksKey}
 use Rattle.env_groups.specs.declared.group.GroupKind.{GroupKind}
 use Rattle.tok_lists.specs.StartNames.{start_names}
@@ -121,6 +130,38 @@ fit_after_opening names old new kind is fit = (fit.0, open_keeps (IsFit names) (
 pub fit_after_closing : (names : List Spelling) (old new : Nest) (kind : GroupKind) → group_closed old kind ≡ Ok new → AreFit names old → AreFit names new
 unfolding AreFit
 fit_after_closing names old new kind is fit = (fit.0, close_keeps (IsFit names) (IsPlainList names) (λ _. Unit {0}) old new kind is fit.1)
+
+any_box : (value : Option BoxTree) → IfSome value (λ _. Unit {0})
+any_box (Some b) = tt
+any_box None = tt
+
+pub fit_after_int : (names : List Spelling) (old new : Nest) (key : IntKey) (value : ℤ) (is_global : Bool) → int_set old key value is_global ≡ Ok new → AreFit names old → AreFit names new
+unfolding AreFit
+fit_after_int names old new key value is_global is fit = (fit.0, int_keeps (IsFit names) (IsPlainList names) (λ _. Unit {0}) old new key value is_global is fit.1)
+
+pub fit_after_dim : (names : List Spelling) (old new : Nest) (key : DimKey) (value : Sp) (is_global : Bool) → dim_set old key value is_global ≡ Ok new → AreFit names old → AreFit names new
+unfolding AreFit
+fit_after_dim names old new key value is_global is fit = (fit.0, dim_keeps (IsFit names) (IsPlainList names) (λ _. Unit {0}) old new key value is_global is fit.1)
+
+pub fit_after_glue : (names : List Spelling) (old new : Nest) (key : GlueKey) (value : Glue) (is_global : Bool) → glue_set old key value is_global ≡ Ok new → AreFit names old → AreFit names new
+unfolding AreFit
+fit_after_glue names old new key value is_global is fit = (fit.0, glue_keeps (IsFit names) (IsPlainList names) (λ _. Unit {0}) old new key value is_global is fit.1)
+
+pub fit_after_box : (names : List Spelling) (old new : Nest) (n : ℕ) (value : Option BoxTree) (is_global : Bool) → box_set old n value is_global ≡ Ok new → AreFit names old → AreFit names new
+unfolding AreFit
+fit_after_box names old new n value is_global is fit = (fit.0, box_keeps (IsFit names) (IsPlainList names) (λ _. Unit {0}) old new n value is_global is (any_box value) fit.1)
+
+pub fit_after_replacing : (names : List Spelling) (old new : Nest) (n : ℕ) (value : Option BoxTree) → box_replaced old n value ≡ Ok new → AreFit names old → AreFit names new
+unfolding AreFit
+fit_after_replacing names old new n value is fit = (fit.0, replace_keeps (IsFit names) (IsPlainList names) (λ _. Unit {0}) old new n value is (any_box value) fit.1)
+
+pub fit_after_code : (names : List Spelling) (old new : Nest) (key : CodeKey) (value : ℤ) (is_global : Bool) → code_set old key value is_global ≡ Ok new → AreFit names old → AreFit names new
+unfolding AreFit
+fit_after_code names old new key value is_global is fit = (fit.0, code_keeps (IsFit names) (IsPlainList names) (λ _. Unit {0}) old new key value is_global is fit.1)
+
+pub fit_after_font : (names : List Spelling) (nest : Nest) (slot : FontSlot) (value : FontNo) (is_global : Bool) → AreFit names nest → AreFit names (font_set nest slot value is_global)
+unfolding AreFit
+fit_after_font names nest slot value is_global fit = (fit.0, font_keeps (IsFit names) (IsPlainList names) (λ _. Unit {0}) nest slot value is_global fit.1)
 
 -- What a token register holds can be put in front.
 pub toks_fit : (names : List Spelling) (nest : Nest) (key : ToksKey) (value : List Token) → AreFit names nest → toks_at nest key ≡ Ok value → IsPlainList names value

@@ -1,15 +1,24 @@
 //! Laws of expansion. The lemmas that proofs cite for them stand in `proofs/Unguarded.antt` and
 //! `proofs/Sized.antt`.
 
-ghost use Rattle.std.specs.Prelude.{◌≡◌, ◌≤◌, ◌<◌, ◌↔◌, ℕ, Bool, List, [], Ok, IfOk, IsTrue};
+ghost use Rattle.std.specs.Prelude.{◌≡◌, ◌≤◌, ◌<◌, ◌↔◌, ℕ, ℤ, Bool, List, [], Option, Ok, IfOk, IsTrue};
 ghost use Rattle.tok_lists.specs.declared.token.Token.{Token};
 ghost use Rattle.tok_lists.specs.declared.spelling.Spelling.{Spelling};
 ghost use Rattle.tok_lists.specs.Names.{Grew};
 ghost use Rattle.tok_lists.specs.StartNames.{start_names};
 ghost use Rattle.env_groups.specs.declared.group.GroupKind.{GroupKind};
+ghost use Rattle.ts_geometry.specs.declared.glue.Glue.{Glue};
+ghost use Rattle.ts_geometry.specs.declared.measure.Sp.{Sp};
+ghost use Rattle.box_tree.specs.Trees.{BoxTree};
+ghost use Rattle.box_tree.specs.declared.item.FontNo.{FontNo};
+ghost use Rattle.env_groups.specs.declared.font.FontSlot.{FontSlot};
+ghost use Rattle.env_groups.specs.declared.code.CodeKey.{CodeKey};
+ghost use Rattle.env_groups.specs.declared.key.IntKey.{IntKey};
+ghost use Rattle.env_groups.specs.declared.key.DimKey.{DimKey};
+ghost use Rattle.env_groups.specs.declared.key.GlueKey.{GlueKey};
 ghost use Rattle.env_groups.specs.declared.key.ToksKey.{ToksKey};
 ghost use Rattle.env_groups.specs.declared.meaning.Meaning.{Meaning};
-ghost use Rattle.env_groups.specs.Environments.{Nest, start, meaning_set, toks_set, group_opened, group_closed};
+ghost use Rattle.env_groups.specs.Environments.{Nest, start, meaning_set, int_set, dim_set, glue_set, toks_set, box_set, box_replaced, code_set, font_set, group_opened, group_closed};
 ghost use Rattle.expander.specs.Holding.{AreFit, IsFit, IsPlainList};
 ghost use Rattle.mouth.specs.Sizes.{size};
 ghost use Rattle.ts_base.specs.Agreement.{followed_by};
@@ -60,8 +69,8 @@ pub fn meanings_are_compared()
 {}
 
 /// The environment at the start is fit for expansion with the names of the start, and an
-/// environment stays so as names come, and after each call that is made with what names hold.
-#[tactic(auto, using(crate::proofs::Fitting::fit_at_start, crate::proofs::Fitting::fit_still, crate::proofs::Fitting::fit_after_meaning, crate::proofs::Fitting::fit_after_toks, crate::proofs::Fitting::fit_after_opening, crate::proofs::Fitting::fit_after_closing))]
+/// environment stays so as names come, and after each call that sets something that names hold.
+#[tactic(auto, using(crate::proofs::Fitting::fit_at_start, crate::proofs::Fitting::fit_still, crate::proofs::Fitting::fit_after_meaning, crate::proofs::Fitting::fit_after_int, crate::proofs::Fitting::fit_after_dim, crate::proofs::Fitting::fit_after_glue, crate::proofs::Fitting::fit_after_toks, crate::proofs::Fitting::fit_after_box, crate::proofs::Fitting::fit_after_replacing, crate::proofs::Fitting::fit_after_code, crate::proofs::Fitting::fit_after_font, crate::proofs::Fitting::fit_after_opening, crate::proofs::Fitting::fit_after_closing))]
 pub fn environments_stay_fit()
     ensures start { AreFit start_names start }
     ensures grew { (old new : List Spelling) (nest : Nest) → Grew old new → AreFit old nest
@@ -73,6 +82,25 @@ pub fn environments_stay_fit()
         (is_global : Bool) → toks_set old key value is_global ≡ Ok new
         → IsPlainList names value
         → AreFit names old → AreFit names new }
+    ensures int { (names : List Spelling) (old new : Nest) (key : IntKey) (value : ℤ)
+        (is_global : Bool) → int_set old key value is_global ≡ Ok new → AreFit names old
+        → AreFit names new }
+    ensures dim { (names : List Spelling) (old new : Nest) (key : DimKey) (value : Sp)
+        (is_global : Bool) → dim_set old key value is_global ≡ Ok new → AreFit names old
+        → AreFit names new }
+    ensures glue { (names : List Spelling) (old new : Nest) (key : GlueKey) (value : Glue)
+        (is_global : Bool) → glue_set old key value is_global ≡ Ok new → AreFit names old
+        → AreFit names new }
+    ensures boxes { (names : List Spelling) (old new : Nest) (n : ℕ) (value : Option BoxTree)
+        (is_global : Bool) → box_set old n value is_global ≡ Ok new → AreFit names old
+        → AreFit names new }
+    ensures replaced { (names : List Spelling) (old new : Nest) (n : ℕ) (value : Option BoxTree)
+        → box_replaced old n value ≡ Ok new → AreFit names old → AreFit names new }
+    ensures code { (names : List Spelling) (old new : Nest) (key : CodeKey) (value : ℤ)
+        (is_global : Bool) → code_set old key value is_global ≡ Ok new → AreFit names old
+        → AreFit names new }
+    ensures font { (names : List Spelling) (nest : Nest) (slot : FontSlot) (value : FontNo)
+        (is_global : Bool) → AreFit names nest → AreFit names (font_set nest slot value is_global) }
     ensures opened { (names : List Spelling) (old new : Nest) (kind : GroupKind)
         → group_opened old kind ≡ Ok new → AreFit names old → AreFit names new }
     ensures closed { (names : List Spelling) (old new : Nest) (kind : GroupKind)

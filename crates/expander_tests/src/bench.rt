@@ -1,6 +1,6 @@
 //! What runs a source in memory.
 
-ghost use Rattle.std.specs.Prelude.{IfOk, OnOk};
+ghost use Rattle.std.specs.Prelude.{IfOk};
 ghost use Rattle.tok_lists.specs.StartNames.{start_names};
 ghost use Rattle.mouth.specs.Keeping.{AreOpen, IsReadable};
 ghost use Rattle.expander.specs.Holding.{AreFit};
