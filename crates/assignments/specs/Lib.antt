@@ -1,0 +1,11 @@
+pub mod Worlds
+pub mod Reads
+pub mod Values
+pub mod Variables
+pub mod Commands
+pub mod Seeking
+pub mod Settings
+pub mod Calculations
+pub mod Namings
+pub mod Assignments
+pub mod Groups

@@ -1,0 +1,24 @@
+//! Assignments and groups of braces: the commands that touch what is read and the environment
+//! alone (The TeXbook, chapters 20 and 24; TeX: The Program, sections 1208 to 1240; pTeX).
+#![tactic(auto)]
+
+mod assigning;
+mod calculations;
+mod command;
+mod grouping;
+mod namings;
+mod reads;
+mod seeking;
+mod settings;
+mod storing;
+mod token_lists;
+mod values;
+mod variable;
+
+pub use assigning::{assign, carry_out, read_prefixes};
+pub use command::{
+    Assignment, Command, Defining, Operation, Prefix, Prefixes, Shorthand, command_in, command_of,
+    meant,
+};
+pub use grouping::{Grouping, change_group, grouping_of};
+pub use variable::{Numbered, Target, Variable};
