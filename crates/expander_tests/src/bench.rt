@@ -95,12 +95,7 @@ pub(crate) fn held(alloc: Global, source: &[u8]) -> Result<MemFiles, NoMemory> {
         file(alloc, b"b.tex", b"b\n")?,
         file(alloc, b"c.x", b"\\input c.x \n")?,
     ]?;
-    Ok(MemFiles::new(
-        alloc,
-        files,
-        vec![in alloc; 1]?,
-        Vec::new(alloc),
-    ))
+    Ok(MemFiles::new(alloc, files, vec![in alloc; 1]?, Vec::new(alloc)))
 }
 
 fn empty_box(alloc: Global, kind: BoxKind) -> Result<SharedBox, NoMemory> {

@@ -4,6 +4,6 @@
 #[cfg(test)]
 mod bench;
 #[cfg(test)]
-mod macros;
+mod defined_macros;
 #[cfg(test)]
 mod primitives;

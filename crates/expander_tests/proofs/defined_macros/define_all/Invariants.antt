@@ -1,6 +1,6 @@
 use Rattle.mouth.specs.Keeping.{AreOpen, IsReadable}
 use Rattle.expander.specs.Holding.{AreFit}
-use Rattle.expander_tests.proofs.macros.define_all.Given as goal
+use Rattle.expander_tests.proofs.defined_macros.define_all.Given as goal
 
 abbrev pub invariant-loop : goal.invariant-loop
 invariant-loop g l = record {

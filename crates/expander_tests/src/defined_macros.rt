@@ -9,8 +9,8 @@ ghost use Rattle.macros.specs.Definitions.{IsDefined};
 ghost use Rattle.expander.specs.Holding.{AreFit};
 
 use crate::bench::{Ending, ending_of, held, prepared, text_of};
-use expander::{Gullet, GulletFault, environments_stay_fit};
 use env_groups::{Env, MacroDef, Meaning};
+use expander::{Gullet, GulletFault, environments_stay_fit};
 use input_codings::Coding;
 use std::alloc::Global;
 use std::test::Fail;
