@@ -10,7 +10,7 @@ use env_groups::{Env, ToksKey};
 use expander::{Gullet, GulletFault, environments_stay_fit};
 use std::alloc::Global;
 use std::test::Fail;
-use tok_lists::{NameNo, SharedTokens, Token, Tokens};
+use tok_lists::{SharedTokens, Token, Tokens};
 use ts_base::NoMemory;
 use ts_geometry::{Dir, Measures, Sp};
 use ts_outside::{FileName, Files, MemFile, MemFiles};
@@ -60,16 +60,16 @@ pub(crate) fn ending_of<F: Files>(
     Ok(Ending { fault, line })
 }
 
-/// Returns tokens as a text: letters alone, other characters after `=`, names and kept names with
-/// their number after `N` and `K`, parameters after `#`.
+/// Returns tokens as a text: letters alone, other characters after `=`, names and kept names as
+/// the character of 33 and their number modulo 90 after `N` and `K`, parameters after `#`.
 pub(crate) fn text_of(alloc: Global, tokens: &Tokens) -> Result<Vec<u8>, NoMemory> {
     let mut text = Vec::new(alloc);
     for token in tokens.as_slice() {
         let (mark, code) = match token {
             Token::Char(code, 12) => (b'=', *code),
             Token::Char(code, _) => (0, *code),
-            Token::Name(name) => (b'N', (name.0 % 256) as u8),
-            Token::Kept(name) => (b'K', (name.0 % 256) as u8),
+            Token::Name(name) => (b'N', 33 + (name.0 % 90) as u8),
+            Token::Kept(name) => (b'K', 33 + (name.0 % 90) as u8),
             Token::Param(number) => (b'#', b'0'.saturating_add(*number)),
             Token::Ja(_) => (0, b'?'),
         };
@@ -88,14 +88,38 @@ fn file(alloc: Global, name: &[u8], bytes: &[u8]) -> Result<MemFile, NoMemory> {
     })
 }
 
-/// Returns files of which `a` is a source, `b.tex` the letter b, and `c.x` one that opens itself.
+// The bytes of a source, in which the characters 1, 2 and 3 stand for the EUC codes of a kana of
+// each kind and of a kanji.
+fn source_bytes(alloc: Global, source: &[u8]) -> Result<Vec<u8>, NoMemory> {
+    let mut bytes = Vec::new(alloc);
+    for byte in source {
+        match byte {
+            1 => bytes.extend_from_slice(&[0xA4, 0xA2])?,
+            2 => bytes.extend_from_slice(&[0xA5, 0xA2])?,
+            3 => bytes.extend_from_slice(&[0xB0, 0xA1])?,
+            _ => bytes.push(*byte)?,
+        }
+    }
+    Ok(bytes)
+}
+
+/// Returns files whose reads are cut to one byte.
 pub(crate) fn held(alloc: Global, source: &[u8]) -> Result<MemFiles, NoMemory> {
+    held_in(alloc, source, vec![in alloc; 1]?)
+}
+
+/// Returns files of which `a` is a source, `b.tex` the letter b, and `c.x` one that opens itself.
+pub(crate) fn held_in(
+    alloc: Global,
+    source: &[u8],
+    cuts: Vec<usize>,
+) -> Result<MemFiles, NoMemory> {
     let files = vec![in alloc;
-        file(alloc, b"a", source)?,
+        file(alloc, b"a", &source_bytes(alloc, source)?)?,
         file(alloc, b"b.tex", b"b\n")?,
         file(alloc, b"c.x", b"\\input c.x \n")?,
     ]?;
-    Ok(MemFiles::new(alloc, files, vec![in alloc; 1]?, Vec::new(alloc)))
+    Ok(MemFiles::new(alloc, files, cuts, Vec::new(alloc)))
 }
 
 fn empty_box(alloc: Global, kind: BoxKind) -> Result<SharedBox, NoMemory> {
@@ -121,18 +145,20 @@ fn set_box(env: &mut Env, n: u32, held: SharedBox) -> Result<(), NoMemory>
     env.set_box(n, Some(held), false).or(Err(NoMemory))
 }
 
-// Sets a token register to `\fi` and a `#`.
+// Sets a token register to a `#`.
 fn set_toks(alloc: Global, env: &mut Env) -> Result<(), NoMemory>
     requires fit { AreFit start_names env.old }
     ensures fit { AreFit start_names env.new }
 {
     environments_stay_fit();
-    let list = SharedTokens::new(alloc, &[Token::Name(NameNo(15)), Token::Char(b'#', 6)])?;
-    env.set_toks(ToksKey::Register(0), list, false)
-        .or(Err(NoMemory))
+    let list = SharedTokens::new(alloc, &[Token::Char(b'#', 6)])?;
+    match env.set_toks(ToksKey::Register(0), list, false) {
+        Ok(()) => Ok(()),
+        Err(_) => Err(NoMemory),
+    }
 }
 
-/// Returns an environment in which token register 0 has `\fi` and a `#`, and box registers 1 and 2 a
+/// Returns an environment in which token register 0 has a `#`, and box registers 1 and 2 a
 /// horizontal and a vertical box.
 pub(crate) fn prepared(alloc: Global) -> Result<Env, NoMemory>
     ensures { IfOk result (AreFit start_names) }

@@ -30,12 +30,12 @@ enum First {
 
 // A source that begins with so many macros, each a name and its definition.
 struct Row {
-    source: &'static [u8],
+    source: &'static str,
     macros: u8,
     first: First,
     budget: u32,
-    // tokens as in the table of primitives, and parameters after `#`
-    tokens: &'static [u8],
+    // as `text_of` writes them
+    tokens: &'static str,
     fault: GulletFault,
     line: u32,
 }
@@ -182,175 +182,179 @@ fn run_row<F: Files>(
 fn is_row(alloc: Global, env: &mut Env, row: &Row) -> Result<bool, Fail>
     requires fit { AreFit start_names env.old }
 {
-    let mut files = held(alloc, row.source).or(Err("memory"))?;
+    let mut files = held(alloc, row.source.as_bytes()).or(Err("memory"))?;
     let mut tokens = Tokens::new(alloc);
     let ending = run_row(alloc, &mut files, env, row, &mut tokens)?;
     let text = text_of(alloc, &tokens).or(Err("memory"))?;
-    Ok(ending.fault == Some(row.fault) && ending.line == row.line && text.as_slice() == row.tokens)
+    Ok(
+        ending.fault == Some(row.fault)
+            && ending.line == row.line
+            && text.as_slice() == row.tokens.as_bytes(),
+    )
 }
 
-const ROWS: [Row; 18] = [
+const ROWS: &[Row] = &[
     Row {
-        source: b"\\a#1{#1#1}\\a{xy}\n",
+        source: "\\a#1{#1#1}\\a{xy}\n",
         macros: 1,
         first: First::Nothing,
         budget: 1,
-        tokens: b"xyxy ",
+        tokens: "xyxy ",
         fault: GulletFault::NoEnd,
         line: 1,
     },
     Row {
-        source: b"\\a#1{#1#1}\\a{xy}\n",
+        source: "\\a#1{#1#1}\\a{xy}\n",
         macros: 1,
         first: First::Nothing,
         budget: 0,
-        tokens: b"",
+        tokens: "",
         fault: GulletFault::Budget,
         line: 1,
     },
     Row {
-        source: b"\\a{\\a}\\a",
+        source: "\\a{\\a}\\a",
         macros: 1,
         first: First::Nothing,
         budget: 100,
-        tokens: b"",
+        tokens: "",
         fault: GulletFault::Budget,
         line: 1,
     },
     Row {
-        source: b"\\a#1{[#1]}\\b#1{<#1>}\\c{xy}\\expandafter\\expandafter\\expandafter\
+        source: "\\a#1{[#1]}\\b#1{<#1>}\\c{xy}\\expandafter\\expandafter\\expandafter\
             \\a\\expandafter\\b\\c%",
         macros: 3,
         first: First::Nothing,
         budget: 7,
-        tokens: b"=[=<=]x=>y",
+        tokens: "=[=<=]x=>y",
         fault: GulletFault::NoEnd,
         line: 1,
     },
     Row {
-        source: b"\\a{x}\\b{x}\\ifx\\a\\b y\\else n\\fi\\ifx\\a\\par y\\else n\\fi\
+        source: "\\a{x}\\b{x}\\ifx\\a\\b y\\else n\\fi\\ifx\\a\\par y\\else n\\fi\
             \\ifx xyY\\else N\\fi%",
         macros: 2,
         first: First::Nothing,
         budget: 6,
-        tokens: b"ynN",
+        tokens: "ynN",
         fault: GulletFault::NoEnd,
         line: 1,
     },
     Row {
-        source: b"\\a{\\b}\\b{}\\ifx\\a\\c y\\else n\\fi\\ifx\\c\\d y\\fi\\a\\q",
+        source: "\\a{\\b}\\b{}\\ifx\\a\\c y\\else n\\fi\\ifx\\c\\d y\\fi\\a\\q",
         macros: 2,
         first: First::Nothing,
         budget: 9,
-        tokens: b"ny",
+        tokens: "ny",
         fault: GulletFault::Undefined,
         line: 1,
     },
     Row {
-        source: b"\\a#1{#1}#1\\b{\\a{y}\\noexpand\\a##\\iftrue z\\else w\\fi\\string\\a#1}%",
+        source: "\\a#1{#1}#1\\b{\\a{y}\\noexpand\\a##\\iftrue z\\else w\\fi\\string\\a#1}%",
         macros: 1,
         first: First::Expanded,
         budget: 5,
-        tokens: b"#1N\x8b|yN\x8a#z=\\=a#1|",
+        tokens: "#1NR|yNQ#z=\\=a#1|",
         fault: GulletFault::NoEnd,
         line: 1,
     },
     Row {
-        source: b"#1{#\\iftrue1\\fi{#1}}x%",
+        source: "#1{#\\iftrue1\\fi{#1}}x%",
         macros: 0,
         first: First::Expanded,
         budget: 2,
-        tokens: b"#1|#1{#1}|x",
+        tokens: "#1|#1{#1}|x",
         fault: GulletFault::NoEnd,
         line: 1,
     },
     Row {
-        source: b"{x\n%",
+        source: "{x\n%",
         macros: 0,
         first: First::Expanded,
         budget: 0,
-        tokens: b"",
+        tokens: "",
         fault: GulletFault::FileEnded,
         line: 2,
     },
     Row {
-        source: b"#1{\n#\\relax}",
+        source: "#1{\n#\\relax}",
         macros: 0,
         first: First::Expanded,
         budget: 0,
-        tokens: b"",
+        tokens: "",
         fault: GulletFault::BadParameter,
         line: 2,
     },
     Row {
-        source: b"\\a{\\q}{\\a}",
+        source: "\\a{\\q}{\\a}",
         macros: 1,
         first: First::Expanded,
         budget: 1,
-        tokens: b"",
+        tokens: "",
         fault: GulletFault::Undefined,
         line: 1,
     },
     Row {
-        source: b"{\\the\\toks0 }%",
+        source: "{\\the\\toks0 }%",
         macros: 0,
         first: First::Expanded,
         budget: 1,
-        tokens: b"|N\x0f#|",
+        tokens: "|#|",
         fault: GulletFault::NoEnd,
         line: 1,
     },
     Row {
-        source: b"#1{#\\the\\linepenalty}%",
+        source: "#1{#\\the\\linepenalty}%",
         macros: 0,
         first: First::Expanded,
         budget: 1,
-        tokens: b"#1|#1=0|",
+        tokens: "#1|#1=0|",
         fault: GulletFault::NoEnd,
         line: 1,
     },
     Row {
-        source: b"{\\the\\count0}",
+        source: "{\\the\\count0}",
         macros: 0,
         first: First::Expanded,
         budget: 0,
-        tokens: b"",
+        tokens: "",
         fault: GulletFault::Budget,
         line: 1,
     },
     Row {
-        source: b"{\\input b }",
+        source: "{\\input b }",
         macros: 0,
         first: First::Expanded,
         budget: 1,
-        tokens: b"",
+        tokens: "",
         fault: GulletFault::FileEnded,
         line: 1,
     },
     Row {
-        source: b"\\a{\\csname\\a}\\a",
+        source: "\\a{\\csname\\a}\\a",
         macros: 1,
         first: First::Nothing,
         budget: 999,
-        tokens: b"",
+        tokens: "",
         fault: GulletFault::DepthFull,
         line: 1,
     },
     Row {
-        source: b" \\relax{a{\\q}}b%",
+        source: " \\relax{a{\\q}}b%",
         macros: 0,
         first: First::Balanced,
         budget: 0,
-        tokens: b"a{N\x8a}|b",
+        tokens: "a{NQ}|b",
         fault: GulletFault::NoEnd,
         line: 1,
     },
     Row {
-        source: b" \\relax\n x",
+        source: " \\relax\n x",
         macros: 0,
         first: First::Balanced,
         budget: 0,
-        tokens: b"",
+        tokens: "",
         fault: GulletFault::NoBrace,
         line: 2,
     },
@@ -369,6 +373,6 @@ fn first_wrong(alloc: Global, rows: &[Row]) -> Result<Option<usize>, Fail> {
 
 #[test]
 fn macros_are_defined_and_called(rt: HostRuntime) -> Result<(), Fail> {
-    assert_eq!(rt; first_wrong(rt.alloc(), &ROWS)?, None);
+    assert_eq!(rt; first_wrong(rt.alloc(), ROWS)?, None);
     Ok(())
 }
