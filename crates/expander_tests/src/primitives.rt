@@ -326,13 +326,19 @@ fn long_input(alloc: Global, count: u32) -> Result<Vec<u8>, NoMemory> {
     Ok(text)
 }
 
-fn long_name_fault(alloc: Global, count: u32) -> Result<Option<GulletFault>, Fail> {
-    let mut env = prepared(alloc).or(Err("memory"))?;
+fn fault_of_name(alloc: Global, env: &mut Env, count: u32) -> Result<Option<GulletFault>, Fail>
+    requires fit { AreFit start_names env.old }
+{
     let source = long_input(alloc, count).or(Err("memory"))?;
     let mut files = held(alloc, &source).or(Err("memory"))?;
     let mut tokens = Tokens::new(alloc);
-    let ending = expand_file(alloc, &mut files, &mut env, 1, &mut tokens)?;
+    let ending = expand_file(alloc, &mut files, env, 1, &mut tokens)?;
     Ok(ending.fault)
+}
+
+fn long_name_fault(alloc: Global, count: u32) -> Result<Option<GulletFault>, Fail> {
+    let mut env = prepared(alloc).or(Err("memory"))?;
+    fault_of_name(alloc, &mut env, count)
 }
 
 #[test]
