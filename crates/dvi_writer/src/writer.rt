@@ -102,6 +102,13 @@ impl Writer {
         Ok(page.out)
     }
 
+    /// Returns how many pages came. Takes no memory.
+    pub fn pages(&self) -> u16
+        ensures { result ≡ page_count self.now }
+    {
+        self.kept.pages
+    }
+
     /// Returns the bytes after the last page: the postamble, with the fonts again, and the fill; or
     /// nothing where no page came. The postamble has the greatest height and the greatest width of
     /// what the boxes cover, at least 0, the number of pages, and 3 as its identification where a

@@ -85,6 +85,15 @@ impl<'a, S: Sink> PageShipper<'a, S> {
         }
     }
 
+    /// Returns how many boxes it took. Takes no memory.
+    pub fn pages(&self) -> u16
+        ensures { (boxes : List Asked) → Took (S.held self.now.out.now) self.now.writer
+            self.now.put self.now.broken boxes → self.now.broken ≡ false
+            → result ≡ length boxes }
+    {
+        self.writer.pages()
+    }
+
     /// Puts the postamble, or nothing where no box was taken. `SinkFault` comes only where the sink
     /// fails. Refused, it has put a part of the postamble that isn't all of it.
     pub fn finish(self) -> Result<(), ShipFault>
