@@ -7,25 +7,28 @@ use Rattle.tok_lists.specs.declared.token.Token.{Token}
 use Rattle.tok_lists.specs.declared.token.Token.TheVariants as tokens
 use Rattle.mouth.specs.Keeping.{IsToken}
 use Rattle.mouth.specs.Reading.{Reading, Stop}
-use Rattle.mouth.specs.Changes.{begun}
+use Rattle.env_groups.specs.declared.meaning.MacroDef.{MacroDef}
+use Rattle.mouth.specs.Changes.{begun, entered, left}
 use Rattle.mouth.specs.Sizes.{size}
 use Rattle.mouth.specs.Tokens.{plain}
 use Rattle.raw_texts.specs.declared.machine.Progress.{Progress}
 use Rattle.raw_texts.specs.declared.machine.Progress.TheVariants.{On, Done}
 use Rattle.macros.specs.declared.body.Body.{Body}
-use Rattle.macros.specs.Bodies.{step}
+use Rattle.macros.specs.Headings.{heading}
+use Rattle.macros.specs.Bodies.{empty, step}
+use Rattle.macros.specs.Definitions.{defined}
 use Rattle.expander.specs.declared.fault.StepFault.{StepFault}
 use Rattle.expander.specs.declared.fault.StepFault.TheVariants.{Text}
 use Rattle.scan_syntax.specs.declared.want.Want.TheVariants.{Internal}
-use Rattle.expander.specs.Faults.{of_mouth, stopped}
+use Rattle.expander.specs.Faults.{of_text, of_mouth, stopped}
 use Rattle.expander.specs.Worlds.{World, world, Outcome, token_from}
 use Rattle.expander.specs.Actions.{expands, front_of}
 use Rattle.expander.specs.Steps.{Expand, Scan}
 use Rattle.expander.specs.Expansion.{run}
-use Rattle.expander.specs.Definitions.{Part, part, token_fed, is_the, the_stored, part_expanded, part_with, next_part, goes_as, goes_on, expanded_within, expanded}
+use Rattle.expander.specs.Definitions.{Part, part, token_fed, is_the, the_stored, part_expanded, part_with, next_part, goes_as, goes_on, expanded_within, expanded, definition_of}
 use Rattle.expander.proofs.Falling.{bind_same}
 use Rattle.expander.proofs.Outcomes.{if_weaker, if_bind, if_then, if_fault, if_either}
-use Rattle.expander.proofs.Texts.{begun_falls, ended_size}
+use Rattle.expander.proofs.Texts.{begun_falls, ended_size, entered_size, left_size, heading_falls, defined_falls}
 use Rattle.expander.proofs.Sized.{scan_leaves, token_falls, expand_leaves}
 use Rattle.std.proofs.lemmas.Result.{IfOk-at_ok}
 
@@ -52,6 +55,31 @@ next_falls body w = if_bind (token_from w.nest w.at) (part_with body w) (λ t. s
 
 next_less : (body : Body) (w : World) (p : Part) → next_part body w ≡ Ok p → size p.rest.at < size w.at
 next_less body w p is = IfOk-at_ok (λ (q : Part). size q.rest.at < size w.at) is (next_falls body w)
+
+as_falls : (more : Body → World → Outcome (Body × World)) (progress : Progress) (body : Body) (w : World) → IfOk (more body w) (λ b. size b.1.at ≤ size w.at)
+    → IfOk (goes_as more progress body w) (λ b. size b.1.at ≤ size w.at)
+as_falls more Done body w further = omega arith
+as_falls more On body w further = further
+
+within_falls : (n : ℕ) (body : Body) (w : World) → IfOk (expanded_within n body w) (λ b. size b.1.at < size w.at)
+unfolding expanded_within
+within_falls zero body w = tt
+within_falls (suc n) body w = if_bind (next_part body w) (goes_on (expanded_within n)) (λ p. size p.rest.at < size w.at) _ (next_falls body w) (λ p less.
+    if_weaker (goes_as (expanded_within n) p.progress p.body p.rest) (λ b. size b.1.at ≤ size p.rest.at) _
+    (as_falls (expanded_within n) p.progress p.body p.rest (if_weaker (expanded_within n p.body p.rest) (λ b. size b.1.at < size p.rest.at) _ (within_falls n p.body p.rest) (λ b fewer. omega (arith, fewer))))
+    (λ b few. omega (arith, less, few)))
+
+body_falls : (body : Body) (w : World) → IfOk (expanded body w) (λ b. size b.1.at < size w.at)
+unfolding expanded
+body_falls body w = within_falls (suc (size w.at)) body w
+
+-- A definition leaves less.
+pub definition_leaves : (is_expanded : Bool) (w : World) → IfOk (definition_of is_expanded w) (λ d. size d.1.at < size w.at)
+definition_leaves true w = if_bind (with_fault of_text (heading w.nest (entered w.at))) _ (λ h. size h.1 < size (entered w.at)) _
+    (if_fault of_text (heading w.nest (entered w.at)) _ (heading_falls w.nest (entered w.at))) (λ h less.
+    if_bind (expanded (empty h.0) (world h.1 w.nest)) _ (λ b. size b.1.at < size h.1) _ (body_falls (empty h.0) (world h.1 w.nest)) (λ b fewer.
+    omega (arith, less, fewer, entered_size w.at, left_size b.1.at)))
+definition_leaves false w = if_bind (with_fault of_text (defined w.nest w.at)) _ (λ d. size d.1 < size w.at) _ (if_fault of_text (defined w.nest w.at) _ (defined_falls w.nest w.at)) (λ d less. less)
 
 -- ---- enough levels are enough
 

@@ -18,3 +18,4 @@ pub mod Turns
 pub mod Spaces
 pub mod Cases
 pub mod Spelling
+pub mod Leaving

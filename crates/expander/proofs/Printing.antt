@@ -4,7 +4,6 @@ use Rattle.std.specs.Prelude.{int_lt, pos, unsigned_abs, if◌then◌else◌, Bo
 use Rattle.ts_base.specs.Agreement.{Cause, Determined, Counted, Free, with_fault, AgreesFault}
 use Rattle.mouth.specs.Reading.{Reading, at_place, place_of}
 use Rattle.jis_codes.specs.Kuten.{Kuten}
-use Rattle.jis_codes.specs.Spellings.{jis, euc, shift_jis, kuten}
 use Rattle.tok_lists.specs.declared.spelling.Spelling.{Spelling}
 use Rattle.tok_lists.specs.declared.token.Token.{Token}
 use Rattle.print_values.specs.Texts.{roman, dimension, glue}
@@ -19,7 +18,7 @@ use Rattle.expander.specs.declared.action.Printing.TheVariants as printings
 use Rattle.expander.specs.declared.fault.StepFault.{StepFault}
 use Rattle.expander.specs.declared.fault.StepFault.TheVariants as faults
 use Rattle.expander.specs.Holding.{IsPlainList, IsListed}
-use Rattle.expander.specs.Numbers.{integer_in, japanese_at, code_shown, value_shown, shown, shown_put}
+use Rattle.expander.specs.Numbers.{integer_in, coding_of, japanese_at, code_shown, value_shown, shown, shown_put}
 
 text_plain : (names : List Spelling) (text : List ℕ) → IsPlainList names (printed text)
 text_plain names text = let both = texts_are_plain names text in (both.0, both.1)
@@ -46,10 +45,7 @@ shown_plain : (names : List Spelling) (printing : Printing) (value : Value) → 
 shown_plain names printings.Number value listed = text_plain names (signed_decimal (integer_in value))
 shown_plain names printings.RomanNumeral value listed = roman_plain names (int_lt (pos 0) (integer_in value)) (roman (unsigned_abs (integer_in value)))
 shown_plain names printings.The value listed = value_plain names value listed
-shown_plain names printings.Jis value listed = code_plain names (japanese_at jis (integer_in value))
-shown_plain names printings.Euc value listed = code_plain names (japanese_at euc (integer_in value))
-shown_plain names printings.Sjis value listed = code_plain names (japanese_at shift_jis (integer_in value))
-shown_plain names printings.Kuten value listed = code_plain names (japanese_at kuten (integer_in value))
+shown_plain names (printings.Code kind) value listed = code_plain names (japanese_at (coding_of kind) (integer_in value))
 
 given_plain : (names : List Spelling) (given : Result (List Token) ScanKind) (list : List Token) → IfOk given (IsPlainList names) → with_fault (λ kind. faults.Scan kind) given ≡ Ok list → IsPlainList names list
 given_plain names (Ok shown_list) list plain is = let same : shown_list ≡ list = cc in subst (IsPlainList names) same plain

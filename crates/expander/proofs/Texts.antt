@@ -23,18 +23,22 @@ use Rattle.raw_texts.specs.declared.fault.MacroFault.{MacroFault}
 use Rattle.raw_texts.specs.declared.machine.Progress.{Progress}
 use Rattle.raw_texts.specs.declared.machine.Progress.TheVariants.{On, Done}
 use Rattle.raw_texts.specs.declared.passing.Past.{Past}
-use Rattle.raw_texts.specs.declared.passing.Past.TheVariants.{Spaces}
+use Rattle.raw_texts.specs.declared.passing.Past.TheVariants.{Spaces, Blanks}
 use Rattle.raw_texts.specs.declared.skipping.Until.{Until}
 use Rattle.raw_texts.specs.declared.token.Brace.{Brace}
 use Rattle.raw_texts.specs.declared.token.Brace.TheVariants.{Begin, End, Neither}
 use Rattle.raw_texts.specs.Faults.{of_mouth as raw_fault}
+use Rattle.raw_texts.specs.Braced.{braced}
 use Rattle.raw_texts.specs.Groups.{group}
 use Rattle.raw_texts.specs.Kinds.{brace_of, is_par}
+use Rattle.raw_texts.specs.Meanings.{meaning_of, means_category}
 use Rattle.raw_texts.specs.Passing.{past}
 use Rattle.raw_texts.specs.Runs.{Step, token_from as raw_token, fed, goes_on, run_within, run, run_inside}
 use Rattle.raw_texts.specs.Skipping.{skipped}
 use Rattle.macros.specs.Undelimited.{undelimited, begun as argument_begun}
 use Rattle.macros.specs.Delimited.{delimited}
+use Rattle.macros.specs.Headings.{heading}
+use Rattle.macros.specs.Definitions.{defined}
 use Rattle.macros.specs.Calls.{met, parts, argument_of, arguments_of, call}
 use Rattle.expander.proofs.Outcomes.{if_given, if_weaker, if_bind, if_then, if_fault, if_either}
 
@@ -182,3 +186,20 @@ unfolding call
 call_falls nest definition r = if_bind (met nest (parts definition.params).prefix (entered r)) _ (λ v. size v ≤ size (entered r)) _ (met_falls nest (parts definition.params).prefix (entered r)) (λ v few.
     if_bind (arguments_of nest definition.long (parts definition.params).delimiters v) _ (λ a. size a.1 ≤ size v) _ (arguments_fall nest definition.long (parts definition.params).delimiters v)
     (λ a fewer. omega (arith, few, fewer, entered_size r, left_size a.1)))
+
+-- ---- definitions and lists
+
+pub heading_falls : (nest : Nest) (r : Reading) → IfOk (heading nest r) (λ h. size h.1 < size r)
+unfolding heading
+heading_falls nest r = run_falls nest _ _ r
+
+pub defined_falls : (nest : Nest) (r : Reading) → IfOk (defined nest r) (λ d. size d.1 < size r)
+unfolding defined
+defined_falls nest r = if_bind (heading nest (entered r)) _ (λ h. size h.1 < size (entered r)) _ (heading_falls nest (entered r)) (λ h less.
+    if_bind (run nest _ _ h.1) _ (λ b. size b.1 < size h.1) _ (run_falls nest _ _ h.1) (λ b fewer. omega (arith, less, fewer, entered_size r, left_size b.1)))
+
+pub braced_falls : (nest : Nest) (r : Reading) → IfOk (braced nest r) (λ b. size b.1 < size r)
+unfolding braced
+braced_falls nest r = if_bind (past nest Blanks r) _ (λ t. size t.1 < size r) _ (past_falls nest Blanks r) (λ t less.
+    if_either (means_category 1 (meaning_of nest t.0)) _ _ _
+    (if_bind (run_inside nest _ _ t.1) _ (λ p. size p.1 < size t.1) _ (inside_falls nest _ _ t.1) (λ p fewer. omega (arith, less, fewer))) tt)

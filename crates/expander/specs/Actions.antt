@@ -18,6 +18,7 @@ use Rattle.expander.specs.declared.action.Further.TheVariants as furthers
 use Rattle.expander.specs.declared.action.NumberTest.TheVariants as tests
 use Rattle.expander.specs.declared.action.BoxTest.TheVariants as boxes
 use Rattle.expander.specs.declared.action.Aspect.TheVariants as aspects
+use Rattle.expander.specs.declared.action.CharNumber.TheVariants as numbers
 use Rattle.expander.specs.declared.action.Printing.TheVariants as printings
 
 -- A primitive that stands in no line here isn't expanded.
@@ -43,10 +44,10 @@ action_of prims.Number = actions.Further (furthers.Prints printings.Number)
 action_of prims.RomanNumeral = actions.Further (furthers.Prints printings.RomanNumeral)
 action_of prims.The = actions.Further (furthers.Prints printings.The)
 action_of prims.Input = actions.Further furthers.Input
-action_of prims.Jis = actions.Further (furthers.Prints printings.Jis)
-action_of prims.Euc = actions.Further (furthers.Prints printings.Euc)
-action_of prims.Sjis = actions.Further (furthers.Prints printings.Sjis)
-action_of prims.Kuten = actions.Further (furthers.Prints printings.Kuten)
+action_of prims.Jis = actions.Further (furthers.Prints (printings.Code numbers.Jis))
+action_of prims.Euc = actions.Further (furthers.Prints (printings.Code numbers.Euc))
+action_of prims.Sjis = actions.Further (furthers.Prints (printings.Code numbers.Sjis))
+action_of prims.Kuten = actions.Further (furthers.Prints (printings.Code numbers.Kuten))
 action_of prims.If = actions.Further (furthers.Compares aspects.Code)
 action_of prims.IfCat = actions.Further (furthers.Compares aspects.Category)
 action_of prims.IfNum = actions.Further furthers.IfNum

@@ -12,6 +12,7 @@ pub mod Faces
 pub mod Naming
 pub mod Inputs
 pub mod Steps
+pub mod Leaving
 pub mod Expansion
 pub mod Definitions
 pub mod Holding

@@ -12,6 +12,8 @@ use Rattle.scan_syntax.specs.declared.want.Want.TheVariants as wants
 use Rattle.scan_syntax.specs.declared.want.Value.{Value}
 use Rattle.scan_syntax.specs.declared.want.Value.TheVariants as values
 use Rattle.print_values.specs.Printing.{printed_number, printed_roman, printed_dimension, printed_glue}
+use Rattle.expander.specs.declared.action.CharNumber.{CharNumber}
+use Rattle.expander.specs.declared.action.CharNumber.TheVariants as numbers
 use Rattle.expander.specs.declared.action.Printing.{Printing}
 use Rattle.expander.specs.declared.action.Printing.TheVariants as printings
 use Rattle.expander.specs.declared.fault.StepFault.TheVariants as faults
@@ -23,10 +25,7 @@ abbrev pub want_of : Printing → Want
 want_of printings.Number = wants.Integer
 want_of printings.RomanNumeral = wants.Integer
 want_of printings.The = wants.Internal
-want_of printings.Jis = wants.Integer
-want_of printings.Euc = wants.Integer
-want_of printings.Sjis = wants.Integer
-want_of printings.Kuten = wants.Integer
+want_of (printings.Code kind) = wants.Integer
 
 -- the integer that was found, where one was scanned
 abbrev pub integer_in : Value → ℤ
@@ -34,6 +33,12 @@ integer_in (values.Integer n) = n
 integer_in _ = pos 0
 
 -- ---- the codes of Japanese characters
+
+abbrev pub coding_of : CharNumber → Coding
+coding_of numbers.Jis = jis
+coding_of numbers.Euc = euc
+coding_of numbers.Sjis = shift_jis
+coding_of numbers.Kuten = kuten
 
 -- the cell of a number in a coding; a number of more than 16 bits has none
 abbrev pub japanese_at : Coding → ℤ → Option Kuten
@@ -59,10 +64,7 @@ abbrev pub shown : Printing → Value → Result (List Token) ScanKind
 shown printings.Number value = Ok (printed_number (integer_in value))
 shown printings.RomanNumeral value = Ok (printed_roman (integer_in value))
 shown printings.The value = Ok (value_shown value)
-shown printings.Jis value = code_shown (japanese_at jis (integer_in value))
-shown printings.Euc value = code_shown (japanese_at euc (integer_in value))
-shown printings.Sjis value = code_shown (japanese_at shift_jis (integer_in value))
-shown printings.Kuten value = code_shown (japanese_at kuten (integer_in value))
+shown (printings.Code kind) value = code_shown (japanese_at (coding_of kind) (integer_in value))
 
 abbrev pub shown_put : Result (List Token) ScanKind → Reading → Outcome Reading
 shown_put (Ok list) r = put list r

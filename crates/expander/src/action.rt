@@ -22,6 +22,19 @@ pub enum Question {
     DDir,
 }
 
+/// In what a number spells a Japanese character (pTeX).
+#[derive(Clone, Copy, Debug, PartialEq, Eq)]
+pub enum CharNumber {
+    /// `\jis`.
+    Jis,
+    /// `\euc`.
+    Euc,
+    /// `\sjis`.
+    Sjis,
+    /// `\kuten`.
+    Kuten,
+}
+
 /// What a value that is scanned is printed as (The TeXbook, chapter 20; pTeX).
 #[derive(Clone, Copy, Debug, PartialEq, Eq)]
 pub enum Printing {
@@ -31,14 +44,8 @@ pub enum Printing {
     RomanNumeral,
     /// `\the`.
     The,
-    /// `\jis`.
-    Jis,
-    /// `\euc`.
-    Euc,
-    /// `\sjis`.
-    Sjis,
-    /// `\kuten`.
-    Kuten,
+    /// The internal code of the Japanese character that a number spells.
+    Code(CharNumber),
 }
 
 /// A test of what a box register holds (The TeXbook, chapter 20).

@@ -5,7 +5,7 @@ ghost use Rattle.expander.specs.Actions.{action_of as the_action_of, is_expanded
 ghost use Rattle.expander.specs.Definitions.{is_the as the_is_the};
 ghost use Rattle.expander.specs.Questions.{answer as the_answer, is_vertical, is_horizontal, is_inner};
 
-use crate::action::{Action, Aspect, BoxTest, Front, Further, NumberTest, Printing, Question};
+use crate::action::{Action, Aspect, BoxTest, CharNumber, Front, Further, NumberTest, Printing, Question};
 use env_groups::{Env, Meaning, Mode, Prim, Situation};
 use raw_texts::Limb;
 use tok_lists::Token;
@@ -35,10 +35,10 @@ pub(crate) fn action_of(prim: Prim) -> Action
         Prim::Number => Action::Further(Further::Prints(Printing::Number)),
         Prim::RomanNumeral => Action::Further(Further::Prints(Printing::RomanNumeral)),
         Prim::The => Action::Further(Further::Prints(Printing::The)),
-        Prim::Jis => Action::Further(Further::Prints(Printing::Jis)),
-        Prim::Euc => Action::Further(Further::Prints(Printing::Euc)),
-        Prim::Sjis => Action::Further(Further::Prints(Printing::Sjis)),
-        Prim::Kuten => Action::Further(Further::Prints(Printing::Kuten)),
+        Prim::Jis => Action::Further(Further::Prints(Printing::Code(CharNumber::Jis))),
+        Prim::Euc => Action::Further(Further::Prints(Printing::Code(CharNumber::Euc))),
+        Prim::Sjis => Action::Further(Further::Prints(Printing::Code(CharNumber::Sjis))),
+        Prim::Kuten => Action::Further(Further::Prints(Printing::Code(CharNumber::Kuten))),
         Prim::IfNum => Action::Further(Further::IfNum),
         Prim::IfDim => Action::Further(Further::IfDim),
         Prim::IfOdd => Action::Further(Further::Tests(NumberTest::Odd)),

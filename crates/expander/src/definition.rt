@@ -8,6 +8,7 @@ ghost use Rattle.macros.specs.Bodies.{IsBody};
 ghost use Rattle.macros.specs.Definitions.{IsDefined};
 ghost use Rattle.expander.specs.Faults.{step_cause};
 ghost use Rattle.expander.specs.Worlds.{world};
+ghost use Rattle.expander.specs.Leaving.{but_meanings};
 ghost use Rattle.expander.specs.Holding.{AreFit, Goes};
 ghost use Rattle.expander.specs.Definitions.{part, the_stored, next_part, expanded, expanded_definition, definition_of};
 
@@ -44,6 +45,7 @@ fn store_the<F: Files>(
     ensures goes { Goes mouth.old (F.state files.old) mouth.new (F.state files.new) }
     ensures readable { OnOk result (IsReadable mouth.new) }
     ensures fit { AreFit mouth.new.names env.new }
+    ensures kept { but_meanings env.new ≡ but_meanings env.old }
     ensures body { OnOk result (IsBody mouth.new.names body.new) }
     ensures size { OnOk result (size (reading mouth.new (F.state files.new))
         ≤ size (reading mouth.old (F.state files.old))) }
@@ -80,6 +82,7 @@ fn take_part<F: Files>(
     ensures goes { Goes mouth.old (F.state files.old) mouth.new (F.state files.new) }
     ensures readable { OnOk result (IsReadable mouth.new) }
     ensures fit { AreFit mouth.new.names env.new }
+    ensures kept { but_meanings env.new ≡ but_meanings env.old }
     ensures body { OnOk result (IsBody mouth.new.names body.new) }
     ensures size { OnOk result (size (reading mouth.new (F.state files.new))
         < size (reading mouth.old (F.state files.old))) }
@@ -116,6 +119,7 @@ fn take_parts<F: Files>(
     ensures goes { Goes mouth.old (F.state files.old) mouth.new (F.state files.new) }
     ensures readable { OnOk result (IsReadable mouth.new) }
     ensures fit { AreFit mouth.new.names env.new }
+    ensures kept { but_meanings env.new ≡ but_meanings env.old }
     ensures body { OnOk result (IsBody mouth.new.names body.new) }
     ensures size { OnOk result (size (reading mouth.new (F.state files.new))
         < size (reading mouth.old (F.state files.old))) }
@@ -150,6 +154,7 @@ fn read_expanded<F: Files>(
     ensures goes { Goes mouth.old (F.state files.old) mouth.new (F.state files.new) }
     ensures readable { OnOk result (IsReadable mouth.new) }
     ensures fit { AreFit mouth.new.names env.new }
+    ensures kept { but_meanings env.new ≡ but_meanings env.old }
     ensures defined { IfOk result (IsDefined mouth.new.names) }
     ensures size { OnOk result (size (reading mouth.new (F.state files.new))
         < size (reading mouth.old (F.state files.old))) }
@@ -186,6 +191,7 @@ pub(crate) fn read_macro<F: Files>(
     ensures goes { Goes mouth.old (F.state files.old) mouth.new (F.state files.new) }
     ensures readable { OnOk result (IsReadable mouth.new) }
     ensures fit { AreFit mouth.new.names env.new }
+    ensures kept { but_meanings env.new ≡ but_meanings env.old }
     ensures defined { IfOk result (IsDefined mouth.new.names) }
     ensures size { OnOk result (size (reading mouth.new (F.state files.new))
         < size (reading mouth.old (F.state files.old))) }

@@ -8,6 +8,7 @@ ghost use Rattle.mouth.specs.Sizes.{size};
 ghost use Rattle.scan_syntax.specs.Bounds.{IsWithinBounds};
 ghost use Rattle.expander.specs.Faults.{step_cause};
 ghost use Rattle.expander.specs.Worlds.{world};
+ghost use Rattle.expander.specs.Leaving.{but_meanings};
 ghost use Rattle.expander.specs.Holding.{AreFit, Goes, IsListed, IsPlainList};
 ghost use Rattle.expander.specs.Scanning.{form_of};
 ghost use Rattle.expander.specs.Steps.{Next, PastSpaces, Expand, Scan as ScanCall, acts, goes_further, wanted, relation_read, expand_next as the_expand_next, expand_after as the_expand_after, print_scanned as the_print_scanned, test_scanned as the_test_scanned, compare_with as the_compare_with, compare_scanned as the_compare_scanned, compare_tokens as the_compare_tokens, Chars as CharsCall, make_name as the_make_name, input as the_input};
@@ -65,6 +66,7 @@ pub(crate) fn expand<F: Files>(
     ensures goes { Goes mouth.old (F.state files.old) mouth.new (F.state files.new) }
     ensures readable { OnOk result (IsReadable mouth.new) }
     ensures fit { AreFit mouth.new.names env.new }
+    ensures kept { but_meanings env.new ≡ but_meanings env.old }
     ensures size { OnOk result (size (reading mouth.new (F.state files.new))
         ≤ size (reading mouth.old (F.state files.old))) }
     ensures counted { Counts step_cause result (F.state files.old).faults
@@ -98,6 +100,7 @@ fn expand_primitive<F: Files>(
     ensures goes { Goes mouth.old (F.state files.old) mouth.new (F.state files.new) }
     ensures readable { OnOk result (IsReadable mouth.new) }
     ensures fit { AreFit mouth.new.names env.new }
+    ensures kept { but_meanings env.new ≡ but_meanings env.old }
     ensures size { OnOk result (size (reading mouth.new (F.state files.new))
         ≤ size (reading mouth.old (F.state files.old))) }
     ensures counted { Counts step_cause result (F.state files.old).faults
@@ -135,6 +138,7 @@ fn expand_further<F: Files>(
     ensures goes { Goes mouth.old (F.state files.old) mouth.new (F.state files.new) }
     ensures readable { OnOk result (IsReadable mouth.new) }
     ensures fit { AreFit mouth.new.names env.new }
+    ensures kept { but_meanings env.new ≡ but_meanings env.old }
     ensures size { OnOk result (size (reading mouth.new (F.state files.new))
         ≤ size (reading mouth.old (F.state files.old)) + 70000000000) }
     ensures counted { Counts step_cause result (F.state files.old).faults
@@ -171,6 +175,7 @@ fn expand_after<F: Files>(
     ensures goes { Goes mouth.old (F.state files.old) mouth.new (F.state files.new) }
     ensures readable { OnOk result (IsReadable mouth.new) }
     ensures fit { AreFit mouth.new.names env.new }
+    ensures kept { but_meanings env.new ≡ but_meanings env.old }
     ensures size { OnOk result (size (reading mouth.new (F.state files.new))
         ≤ size (reading mouth.old (F.state files.old)) + 2000000) }
     ensures counted { Counts step_cause result (F.state files.old).faults
@@ -200,6 +205,7 @@ fn expand_next<F: Files>(
     ensures goes { Goes mouth.old (F.state files.old) mouth.new (F.state files.new) }
     ensures readable { OnOk result (IsReadable mouth.new) }
     ensures fit { AreFit mouth.new.names env.new }
+    ensures kept { but_meanings env.new ≡ but_meanings env.old }
     ensures size { OnOk result (size (reading mouth.new (F.state files.new))
         ≤ size (reading mouth.old (F.state files.old)) + 1000000) }
     ensures counted { Counts step_cause result (F.state files.old).faults
@@ -233,6 +239,7 @@ pub(crate) fn next_token<F: Files>(
     ensures goes { Goes mouth.old (F.state files.old) mouth.new (F.state files.new) }
     ensures readable { OnOk result (IsReadable mouth.new) }
     ensures fit { AreFit mouth.new.names env.new }
+    ensures kept { but_meanings env.new ≡ but_meanings env.old }
     ensures token { IfOk result (IsToken mouth.new.names) }
     ensures size { OnOk result (size (reading mouth.new (F.state files.new))
         < size (reading mouth.old (F.state files.old))) }
@@ -267,6 +274,7 @@ fn next_past_spaces<F: Files>(
     ensures goes { Goes mouth.old (F.state files.old) mouth.new (F.state files.new) }
     ensures readable { OnOk result (IsReadable mouth.new) }
     ensures fit { AreFit mouth.new.names env.new }
+    ensures kept { but_meanings env.new ≡ but_meanings env.old }
     ensures token { IfOk result (IsToken mouth.new.names) }
     ensures size { OnOk result (size (reading mouth.new (F.state files.new))
         < size (reading mouth.old (F.state files.old))) }
@@ -301,6 +309,7 @@ fn take_wanted<F: Files>(
     ensures goes { Goes mouth.old (F.state files.old) mouth.new (F.state files.new) }
     ensures readable { OnOk result (IsReadable mouth.new) }
     ensures fit { AreFit mouth.new.names env.new }
+    ensures kept { but_meanings env.new ≡ but_meanings env.old }
     ensures token { IfOk result (IsToken mouth.new.names) }
     ensures size { OnOk result (size (reading mouth.new (F.state files.new))
         < size (reading mouth.old (F.state files.old))) }
@@ -336,6 +345,7 @@ pub(crate) fn scan<F: Files>(
     ensures goes { Goes mouth.old (F.state files.old) mouth.new (F.state files.new) }
     ensures readable { OnOk result (IsReadable mouth.new) }
     ensures fit { AreFit mouth.new.names env.new }
+    ensures kept { but_meanings env.new ≡ but_meanings env.old }
     ensures listed { IfOk result (IsListed (IsPlainList mouth.new.names)) }
     ensures within { IfOk result IsWithinBounds }
     ensures size { OnOk result (size (reading mouth.new (F.state files.new))
@@ -379,6 +389,7 @@ pub(crate) fn print_scanned<F: Files>(
     ensures goes { Goes mouth.old (F.state files.old) mouth.new (F.state files.new) }
     ensures readable { OnOk result (IsReadable mouth.new) }
     ensures fit { AreFit mouth.new.names env.new }
+    ensures kept { but_meanings env.new ≡ but_meanings env.old }
     ensures size { OnOk result (size (reading mouth.new (F.state files.new))
         ≤ size (reading mouth.old (F.state files.old)) + 2000000) }
     ensures counted { Counts step_cause result (F.state files.old).faults
@@ -409,6 +420,7 @@ fn read_relation<F: Files>(
     ensures goes { Goes mouth.old (F.state files.old) mouth.new (F.state files.new) }
     ensures readable { OnOk result (IsReadable mouth.new) }
     ensures fit { AreFit mouth.new.names env.new }
+    ensures kept { but_meanings env.new ≡ but_meanings env.old }
     ensures size { OnOk result (size (reading mouth.new (F.state files.new))
         < size (reading mouth.old (F.state files.old))) }
     ensures counted { Counts step_cause result (F.state files.old).faults
@@ -442,6 +454,7 @@ fn test_scanned<F: Files>(
     ensures goes { Goes mouth.old (F.state files.old) mouth.new (F.state files.new) }
     ensures readable { OnOk result (IsReadable mouth.new) }
     ensures fit { AreFit mouth.new.names env.new }
+    ensures kept { but_meanings env.new ≡ but_meanings env.old }
     ensures size { OnOk result (size (reading mouth.new (F.state files.new))
         ≤ size (reading mouth.old (F.state files.old)) + 1000000) }
     ensures counted { Counts step_cause result (F.state files.old).faults
@@ -475,6 +488,7 @@ fn compare_with<F: Files>(
     ensures goes { Goes mouth.old (F.state files.old) mouth.new (F.state files.new) }
     ensures readable { OnOk result (IsReadable mouth.new) }
     ensures fit { AreFit mouth.new.names env.new }
+    ensures kept { but_meanings env.new ≡ but_meanings env.old }
     ensures size { OnOk result (size (reading mouth.new (F.state files.new))
         ≤ size (reading mouth.old (F.state files.old)) + 1000000) }
     ensures counted { Counts step_cause result (F.state files.old).faults
@@ -507,6 +521,7 @@ fn compare_scanned<F: Files>(
     ensures goes { Goes mouth.old (F.state files.old) mouth.new (F.state files.new) }
     ensures readable { OnOk result (IsReadable mouth.new) }
     ensures fit { AreFit mouth.new.names env.new }
+    ensures kept { but_meanings env.new ≡ but_meanings env.old }
     ensures size { OnOk result (size (reading mouth.new (F.state files.new))
         ≤ size (reading mouth.old (F.state files.old)) + 2000000) }
     ensures counted { Counts step_cause result (F.state files.old).faults
@@ -538,6 +553,7 @@ fn compare_tokens<F: Files>(
     ensures goes { Goes mouth.old (F.state files.old) mouth.new (F.state files.new) }
     ensures readable { OnOk result (IsReadable mouth.new) }
     ensures fit { AreFit mouth.new.names env.new }
+    ensures kept { but_meanings env.new ≡ but_meanings env.old }
     ensures size { OnOk result (size (reading mouth.new (F.state files.new))
         ≤ size (reading mouth.old (F.state files.old))) }
     ensures counted { Counts step_cause result (F.state files.old).faults
@@ -571,6 +587,7 @@ fn read_chars<F: Files>(
     ensures goes { Goes mouth.old (F.state files.old) mouth.new (F.state files.new) }
     ensures readable { OnOk result (IsReadable mouth.new) }
     ensures fit { AreFit mouth.new.names env.new }
+    ensures kept { but_meanings env.new ≡ but_meanings env.old }
     ensures size { OnOk result (size (reading mouth.new (F.state files.new))
         < size (reading mouth.old (F.state files.old))) }
     ensures counted { Counts step_cause result (F.state files.old).faults
@@ -606,6 +623,7 @@ fn make_name<F: Files>(
     ensures goes { Goes mouth.old (F.state files.old) mouth.new (F.state files.new) }
     ensures readable { OnOk result (IsReadable mouth.new) }
     ensures fit { AreFit mouth.new.names env.new }
+    ensures kept { but_meanings env.new ≡ but_meanings env.old }
     ensures size { OnOk result (size (reading mouth.new (F.state files.new))
         ≤ size (reading mouth.old (F.state files.old)) + 1000000) }
     ensures counted { Counts step_cause result (F.state files.old).faults
@@ -634,6 +652,7 @@ fn input<F: Files>(
     ensures goes { Goes mouth.old (F.state files.old) mouth.new (F.state files.new) }
     ensures readable { OnOk result (IsReadable mouth.new) }
     ensures fit { AreFit mouth.new.names env.new }
+    ensures kept { but_meanings env.new ≡ but_meanings env.old }
     ensures size { OnOk result (size (reading mouth.new (F.state files.new))
         ≤ size (reading mouth.old (F.state files.old)) + 66000000000) }
     ensures counted { Counts step_cause result (F.state files.old).faults

@@ -17,6 +17,7 @@ ghost use Rattle.mouth.specs.Keeping.{numbers, reading, place_in, AgreesAt, AreO
 ghost use Rattle.scan_syntax.specs.Bounds.{IsWithinBounds};
 ghost use Rattle.expander.specs.GulletFaults.{gullet_cause, of_mouth_fault, of_step_fault, stop_as, IsStartFault};
 ghost use Rattle.expander.specs.Worlds.{world};
+ghost use Rattle.expander.specs.Leaving.{but_meanings};
 ghost use Rattle.expander.specs.Holding.{AreFit, Goes, IsListed, IsPlainList};
 ghost use Rattle.expander.specs.Steps.{Next, Scan as ScanCall};
 ghost use Rattle.expander.specs.Expansion.{run};
@@ -87,6 +88,7 @@ impl Gullet {
     /// left, `DepthFull` exactly where 200 expansions have begun and not ended. `Undefined` comes
     /// exactly where an undefined name is expanded, which takes no unit. After a fault only `place`
     /// and `close_all` are used.
+    #[tactic(auto, using(crate::proofs::Leaving::situation_kept, crate::proofs::Leaving::fonts_kept, crate::proofs::Leaving::groups_kept))]
     pub fn next<F: Files>(&mut self, files: &mut F, env: &mut Env) -> Result<Token, GulletFault>
         requires opened { AreOpen self.old (F.state files.old) }
         requires readable { IsReadable self.old }
@@ -98,6 +100,10 @@ impl Gullet {
         ensures goes { Goes self.old (F.state files.old) self.new (F.state files.new) }
         ensures readable { OnOk result (IsReadable self.new) }
         ensures fit { AreFit self.new.names env.new }
+        ensures kept { but_meanings env.new ≡ but_meanings env.old }
+        ensures situation { env.new.situation ≡ env.old.situation }
+        ensures fonts { env.new.fonts ≡ env.old.fonts }
+        ensures groups { env.new.groups ≡ env.old.groups }
         ensures token { IfOk result (IsToken self.new.names) }
         ensures size { OnOk result (size (reading self.new (F.state files.new))
             < size (reading self.old (F.state files.old))) }
@@ -137,6 +143,7 @@ impl Gullet {
     /// `NoNumber`, `NumberRange`, `NoUnit`, `DimenRange`, `RegisterRange`, `CodeRange` and `NoName`
     /// come exactly where the tokens so far have that fault, and what `next` refuses exactly where
     /// expansion gives it first. After a fault only `place` and `close_all` are used.
+    #[tactic(auto, using(crate::proofs::Leaving::situation_kept, crate::proofs::Leaving::fonts_kept, crate::proofs::Leaving::groups_kept))]
     pub fn scan<F: Files>(
         &mut self,
         files: &mut F,
@@ -153,6 +160,10 @@ impl Gullet {
         ensures goes { Goes self.old (F.state files.old) self.new (F.state files.new) }
         ensures readable { OnOk result (IsReadable self.new) }
         ensures fit { AreFit self.new.names env.new }
+        ensures kept { but_meanings env.new ≡ but_meanings env.old }
+        ensures situation { env.new.situation ≡ env.old.situation }
+        ensures fonts { env.new.fonts ≡ env.old.fonts }
+        ensures groups { env.new.groups ≡ env.old.groups }
         ensures listed { IfOk result (IsListed (IsPlainList self.new.names)) }
         ensures within { IfOk result IsWithinBounds }
         ensures size { OnOk result (size (reading self.new (F.state files.new))

@@ -23,6 +23,6 @@ pub use fault::StepFault;
 pub use gullet::Gullet;
 pub use gullet_fault::GulletFault;
 pub use laws::{
-    bodies_go_on, environments_stay_fit, expansion_is_its_steps, expansions_leave_less,
-    meanings_are_compared,
+    bodies_go_on, environments_stay_fit, expansion_is_its_steps, expansions_change_meanings_alone,
+    expansions_leave_less, meanings_are_compared,
 };

@@ -12,6 +12,7 @@ ghost use Rattle.mouth.specs.Sizes.{size};
 ghost use Rattle.expander.specs.declared.fault.StepFault.TheVariants as faults;
 ghost use Rattle.expander.specs.Faults.{step_cause, of_mouth};
 ghost use Rattle.expander.specs.Worlds.{world};
+ghost use Rattle.expander.specs.Leaving.{but_meanings};
 ghost use Rattle.expander.specs.Holding.{AreFit, Goes};
 ghost use Rattle.expander.specs.Naming.{char_of as the_char_of, is_end_prim as the_end_prim, ends_name as the_ends_name, with_relax, spelling_of, name_put};
 ghost use Rattle.expander.specs.Inputs.{name_in as the_name_in, source_name as the_source_name, file_opened};
@@ -73,6 +74,7 @@ pub(crate) fn end_of_name(token: Token, env: &Env, chars: Chars) -> Result<Chars
 fn define_as_relax(env: &mut Env, name: NameNo) -> Result<(), NoMemory>
     ensures value { OnOk result (env.new ≡ with_relax name.0 env.old) }
     ensures fit { (names : List Spelling) → AreFit names env.old → AreFit names env.new }
+    ensures kept { but_meanings env.new ≡ but_meanings env.old }
 {
     if let Meaning::Undefined = env.get_meaning(name) {
         return match env.set_meaning(name, Meaning::Primitive(Prim::Relax), false) {
@@ -113,6 +115,7 @@ pub(crate) fn put_name(
         step_cause mouth.new result
         (name_put chars.now (world (reading mouth.old state) env.old)) }
     ensures fit { AreFit mouth.new.names env.new }
+    ensures kept { but_meanings env.new ≡ but_meanings env.old }
     ensures files { KeepsFiles mouth.old mouth.new }
     ensures names { Grew mouth.old.names mouth.new.names }
     ensures quiet { Uncounted step_cause result }

@@ -3,7 +3,7 @@
 ghost use Rattle.std.specs.Prelude.{◌≡◌, ◌≤◌, ◌+◌, IfOk};
 ghost use Rattle.ts_base.specs.Agreement.{Agrees, Uncounted, with_fault};
 ghost use Rattle.ts_outside.specs.States.{FilesState};
-ghost use Rattle.jis_codes.specs.Spellings.{jis, euc, shift_jis, kuten};
+ghost use Rattle.jis_codes.specs.Numbers.{cell_of as the_cell_of};
 ghost use Rattle.env_groups.specs.Bounds.{IsInt};
 ghost use Rattle.scan_syntax.specs.Bounds.{IsWithinBounds};
 ghost use Rattle.mouth.specs.Keeping.{reading, AgreesAt, KeepsFiles};
@@ -11,9 +11,9 @@ ghost use Rattle.mouth.specs.Sizes.{size};
 ghost use Rattle.expander.specs.declared.fault.StepFault.TheVariants as faults;
 ghost use Rattle.expander.specs.Faults.{step_cause};
 ghost use Rattle.expander.specs.Holding.{IsListed, IsPlainList};
-ghost use Rattle.expander.specs.Numbers.{want_of as the_want, integer_in as the_integer, japanese_at, code_shown as the_code_shown, value_shown as the_value_shown, shown as the_shown, shown_put};
+ghost use Rattle.expander.specs.Numbers.{want_of as the_want, integer_in as the_integer, coding_of, japanese_at as the_japanese_at, code_shown as the_code_shown, value_shown as the_value_shown, shown as the_shown, shown_put};
 
-use crate::action::Printing;
+use crate::action::{CharNumber, Printing};
 use crate::fault::StepFault;
 use crate::steps::push;
 use jis_codes::{Cell, from_euc, from_jis, from_kuten, from_sjis, to_euc};
@@ -30,12 +30,7 @@ pub(crate) fn want_of(printing: Printing) -> Want
 {
     match printing {
         Printing::The => Want::Internal,
-        Printing::Number
-        | Printing::RomanNumeral
-        | Printing::Jis
-        | Printing::Euc
-        | Printing::Sjis
-        | Printing::Kuten => Want::Integer,
+        Printing::Number | Printing::RomanNumeral | Printing::Code(_) => Want::Integer,
     }
 }
 
@@ -51,38 +46,24 @@ pub(crate) fn integer_in(value: &Value) -> i64
     }
 }
 
-fn jis_cell(n: i64) -> Option<Cell>
-    ensures { result ≡ japanese_at jis n }
+// The cell of a number of two bytes.
+fn cell_of(kind: CharNumber, n: u32) -> Option<Cell>
+    ensures { result ≡ the_cell_of (coding_of kind) n }
 {
-    match u16::try_from(n) {
-        Ok(n) => from_jis(u32::from(n)),
-        Err(_) => None,
+    match kind {
+        CharNumber::Jis => from_jis(n),
+        CharNumber::Euc => from_euc(n),
+        CharNumber::Sjis => from_sjis(n),
+        CharNumber::Kuten => from_kuten(n),
     }
 }
 
-fn euc_cell(n: i64) -> Option<Cell>
-    ensures { result ≡ japanese_at euc n }
+// The cell of a number; one of more than 16 bits has none.
+fn japanese_at(kind: CharNumber, n: i64) -> Option<Cell>
+    ensures { result ≡ the_japanese_at (coding_of kind) n }
 {
     match u16::try_from(n) {
-        Ok(n) => from_euc(u32::from(n)),
-        Err(_) => None,
-    }
-}
-
-fn sjis_cell(n: i64) -> Option<Cell>
-    ensures { result ≡ japanese_at shift_jis n }
-{
-    match u16::try_from(n) {
-        Ok(n) => from_sjis(u32::from(n)),
-        Err(_) => None,
-    }
-}
-
-fn kuten_cell(n: i64) -> Option<Cell>
-    ensures { result ≡ japanese_at kuten n }
-{
-    match u16::try_from(n) {
-        Ok(n) => from_kuten(u32::from(n)),
+        Ok(n) => cell_of(kind, u32::from(n)),
         Err(_) => None,
     }
 }
@@ -123,10 +104,7 @@ fn shown(alloc: Global, printing: Printing, value: &Value) -> Result<SharedToken
         Printing::Number => Ok(number(alloc, integer_in(value))?),
         Printing::RomanNumeral => Ok(roman_numeral(alloc, integer_in(value) as i32)?),
         Printing::The => Ok(value_shown(alloc, value)?),
-        Printing::Jis => code_shown(alloc, jis_cell(integer_in(value))),
-        Printing::Euc => code_shown(alloc, euc_cell(integer_in(value))),
-        Printing::Sjis => code_shown(alloc, sjis_cell(integer_in(value))),
-        Printing::Kuten => code_shown(alloc, kuten_cell(integer_in(value))),
+        Printing::Code(kind) => code_shown(alloc, japanese_at(kind, integer_in(value))),
     }
 }
 

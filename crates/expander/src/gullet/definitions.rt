@@ -9,6 +9,7 @@ ghost use Rattle.raw_texts.specs.Holding.{AreTokens};
 ghost use Rattle.macros.specs.Definitions.{IsDefined};
 ghost use Rattle.expander.specs.GulletFaults.{gullet_cause, of_macro_fault, of_step_fault, stop_as};
 ghost use Rattle.expander.specs.Worlds.{world};
+ghost use Rattle.expander.specs.Leaving.{but_meanings};
 ghost use Rattle.expander.specs.Holding.{AreFit, Goes};
 ghost use Rattle.expander.specs.Definitions.{definition_of};
 
@@ -29,6 +30,7 @@ impl Gullet {
     /// exactly where a `}` stands before the body, and `FileEnded` where a file ends in the
     /// definition; the others are those of `raw`, and in an expanded body those of `next`. After a
     /// fault only `place` and `close_all` are used.
+    #[tactic(auto, using(crate::proofs::Leaving::situation_kept, crate::proofs::Leaving::fonts_kept, crate::proofs::Leaving::groups_kept))]
     pub fn definition<F: Files>(
         &mut self,
         files: &mut F,
@@ -48,6 +50,10 @@ impl Gullet {
         ensures goes { Goes self.old (F.state files.old) self.new (F.state files.new) }
         ensures readable { OnOk result (IsReadable self.new) }
         ensures fit { AreFit self.new.names env.new }
+        ensures kept { but_meanings env.new ≡ but_meanings env.old }
+        ensures situation { env.new.situation ≡ env.old.situation }
+        ensures fonts { env.new.fonts ≡ env.old.fonts }
+        ensures groups { env.new.groups ≡ env.old.groups }
         ensures defined { IfOk result (IsDefined self.new.names) }
         ensures size { OnOk result (size (reading self.new (F.state files.new))
             < size (reading self.old (F.state files.old))) }

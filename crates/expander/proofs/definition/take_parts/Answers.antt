@@ -41,6 +41,7 @@ loop-preserved g c =
       goes = goes_then c.args.mouth.now c.loop.mouth c.take_part.new.mouth first before after was.goes c.take_part.ensures.goes;
       readable = c.in_ok-take_part.ensures.readable;
       fit = c.take_part.ensures.fit;
+      kept = c.take_part.ensures.kept ∙ was.kept;
       body = c.in_ok-take_part.ensures.body;
       size = omega (arith, c.in_ok-take_part.ensures.size, was.size);
       counted = c.in_ok-take_part.ensures.counted ∙ was.counted;

@@ -3,6 +3,7 @@ use Rattle.mouth.specs.Sizes.{size}
 use Rattle.mouth.specs.Keeping.{reading, AreTold, IsReadable}
 use Rattle.macros.specs.Bodies.{IsBody}
 use Rattle.expander.specs.Worlds.{world}
+use Rattle.expander.specs.Leaving.{but_meanings}
 use Rattle.expander.specs.Holding.{AreFit, Goes}
 use Rattle.expander.specs.Definitions.{expanded}
 use Rattle.expander.proofs.definition.take_parts.Given as goal
@@ -16,6 +17,7 @@ invariant-loop g l =
       goes : Goes l.fn.mouth old l.mouth new;
       readable : IsReadable l.mouth;
       fit : AreFit l.mouth.names l.env;
+      kept : but_meanings l.env ≡ but_meanings l.fn.env;
       body : IsBody l.mouth.names l.body;
       size : size (reading l.mouth new) ≤ size (reading l.fn.mouth old);
       counted : new.faults ≡ old.faults;

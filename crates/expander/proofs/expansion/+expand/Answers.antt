@@ -70,6 +70,7 @@ next_token-loop-token-preserved g t c =
       goes = goes_then c.args.mouth.now c.take.new.mouth c.expand.new.mouth first (g.F.Files.state c.take.new.files) (g.F.Files.state c.expand.new.files) taken c.expand.ensures.goes;
       readable = c.in_ok-expand.ensures.readable;
       fit = c.expand.ensures.fit;
+      kept = c.expand.ensures.kept ∙ was.kept;
       size = omega (arith, c.in_ok-token.ensures.size, c.in_ok-expand.ensures.size, was.size);
       counted = c.in_ok-expand.ensures.counted ∙ c.in_ok-token.ensures.counted ∙ was.counted;
     }
@@ -102,6 +103,7 @@ next_past_spaces-loop-token-preserved g t c =
       goes = goes_then c.args.mouth.now c.loop-token.mouth c.next_token.new.mouth (g.F.Files.state c.args.files.now) (g.F.Files.state c.loop-token.files) (g.F.Files.state c.next_token.new.files) was.goes c.next_token.ensures.goes;
       readable = c.in_ok-token.ensures.readable;
       fit = c.next_token.ensures.fit;
+      kept = c.next_token.ensures.kept ∙ was.kept;
       size = omega (arith, c.in_ok-token.ensures.size, was.size);
       counted = c.in_ok-token.ensures.counted ∙ was.counted;
     }
@@ -135,6 +137,7 @@ read_chars-loop-chars-preserved g t c =
       goes = goes_then c.args.mouth.now c.loop-chars.mouth c.next_token.new.mouth (g.F.Files.state c.args.files.now) (g.F.Files.state c.loop-chars.files) (g.F.Files.state c.next_token.new.files) was.goes c.next_token.ensures.goes;
       readable = c.in_ok-token.ensures.readable;
       fit = c.next_token.ensures.fit;
+      kept = c.next_token.ensures.kept ∙ was.kept;
       size = omega (arith, c.in_ok-token.ensures.size, was.size);
       counted = c.in_ok-token.ensures.counted ∙ was.counted;
     }
@@ -158,6 +161,7 @@ scan-loop-scan-preserved-in-Ok-Expanded g t c =
       goes = goes_then c.args.mouth.now c.loop-scan.mouth c.take_wanted.new.mouth (g.F.Files.state c.args.files.now) (g.F.Files.state c.loop-scan.files) (g.F.Files.state c.take_wanted.new.files) was.goes c.take_wanted.ensures.goes;
       readable = c.in_ok-token.ensures.readable;
       fit = c.take_wanted.ensures.fit;
+      kept = c.take_wanted.ensures.kept ∙ was.kept;
       size = omega (arith, c.in_ok-token.ensures.size, was.size);
       counted = c.in_ok-token.ensures.counted ∙ was.counted;
     }
@@ -173,6 +177,7 @@ scan-loop-scan-preserved g t c =
       goes = goes_then c.args.mouth.now c.loop-scan.mouth c.take_wanted.new.mouth (g.F.Files.state c.args.files.now) (g.F.Files.state c.loop-scan.files) (g.F.Files.state c.take_wanted.new.files) was.goes c.take_wanted.ensures.goes;
       readable = c.in_ok-token.ensures.readable;
       fit = c.take_wanted.ensures.fit;
+      kept = c.take_wanted.ensures.kept ∙ was.kept;
       size = omega (arith, c.in_ok-token.ensures.size, was.size);
       counted = c.in_ok-token.ensures.counted ∙ was.counted;
     }
@@ -196,6 +201,7 @@ scan-loop-scan-init g t c = record {
   goes = goes_itself c.args.mouth.now (g.F.Files.state c.args.files.now) c.requires.opened;
   readable = c.requires.readable;
   fit = c.requires.fit;
+  kept = refl;
   size = omega arith;
   counted = refl;
 }

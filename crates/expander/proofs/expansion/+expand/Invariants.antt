@@ -2,6 +2,7 @@ use Rattle.std.proofs.Common.{◌≡◌, ◌≤◌, ◌+◌, ◌*◌, []}
 use Rattle.mouth.specs.Sizes.{size}
 use Rattle.mouth.specs.Keeping.{reading, AreTold, IsReadable}
 use Rattle.expander.specs.Worlds.{world}
+use Rattle.expander.specs.Leaving.{but_meanings}
 use Rattle.expander.specs.Holding.{AreFit, Goes}
 use Rattle.expander.specs.Steps.{Next, PastSpaces, Chars}
 use Rattle.scan_syntax.specs.States.{reads}
@@ -33,6 +34,7 @@ invariant-next_token-loop-token g l =
       goes : Goes l.fn.mouth old l.mouth new;
       readable : IsReadable l.mouth;
       fit : AreFit l.mouth.names l.env;
+      kept : but_meanings l.env ≡ but_meanings l.fn.env;
       size : size (reading l.mouth new) ≤ size (reading l.fn.mouth old);
       counted : new.faults ≡ old.faults;
     }
@@ -41,13 +43,13 @@ abbrev pub decreases-next_token-loop-token : goal.decreases-next_token-loop-toke
 decreases-next_token-loop-token g l = size (reading l.mouth (g.F.Files.state l.files))
 
 abbrev pub decreases-expand_further : goal.decreases-expand_further
-decreases-expand_further g l = 8 * size (reading l.mouth.now (g.F.Files.state l.files.now)) + 16000001
+decreases-expand_further g l = 8 * size (reading l.mouth.now (g.F.Files.state l.files.now)) + 5
 
 abbrev pub decreases-test_scanned : goal.decreases-test_scanned
 decreases-test_scanned g l = 8 * size (reading l.mouth.now (g.F.Files.state l.files.now)) + 3
 
 abbrev pub decreases-compare_scanned : goal.decreases-compare_scanned
-decreases-compare_scanned g l = 8 * size (reading l.mouth.now (g.F.Files.state l.files.now)) + 16000000
+decreases-compare_scanned g l = 8 * size (reading l.mouth.now (g.F.Files.state l.files.now)) + 4
 
 abbrev pub decreases-compare_with : goal.decreases-compare_with
 decreases-compare_with g l = 8 * size (reading l.mouth.now (g.F.Files.state l.files.now)) + 3
@@ -67,6 +69,7 @@ invariant-next_past_spaces-loop-token g l =
       goes : Goes l.fn.mouth old l.mouth new;
       readable : IsReadable l.mouth;
       fit : AreFit l.mouth.names l.env;
+      kept : but_meanings l.env ≡ but_meanings l.fn.env;
       size : size (reading l.mouth new) ≤ size (reading l.fn.mouth old);
       counted : new.faults ≡ old.faults;
     }
@@ -95,6 +98,7 @@ invariant-read_chars-loop-chars g l =
       goes : Goes l.fn.mouth old l.mouth new;
       readable : IsReadable l.mouth;
       fit : AreFit l.mouth.names l.env;
+      kept : but_meanings l.env ≡ but_meanings l.fn.env;
       size : size (reading l.mouth new) ≤ size (reading l.fn.mouth old);
       counted : new.faults ≡ old.faults;
     }
@@ -120,6 +124,7 @@ invariant-scan-loop-scan g l =
       goes : Goes l.fn.mouth old l.mouth new;
       readable : IsReadable l.mouth;
       fit : AreFit l.mouth.names l.env;
+      kept : but_meanings l.env ≡ but_meanings l.fn.env;
       size : size (reading l.mouth new) ≤ size (reading l.fn.mouth old);
       counted : new.faults ≡ old.faults;
     }
