@@ -5,7 +5,9 @@ ghost use Rattle.expander.specs.Actions.{action_of as the_action_of, is_expanded
 ghost use Rattle.expander.specs.Definitions.{is_the as the_is_the};
 ghost use Rattle.expander.specs.Questions.{answer as the_answer, is_vertical, is_horizontal, is_inner};
 
-use crate::action::{Action, Aspect, BoxTest, CharNumber, Front, Further, NumberTest, Printing, Question};
+use crate::action::{
+    Action, Aspect, BoxTest, CharNumber, Front, Further, NumberTest, Printing, Question,
+};
 use env_groups::{Env, Meaning, Mode, Prim, Situation};
 use raw_texts::Limb;
 use tok_lists::Token;
