@@ -5,3 +5,4 @@ pub mod Codes
 pub mod Chain
 pub mod FirstFault
 pub mod Prefix
+pub mod Near

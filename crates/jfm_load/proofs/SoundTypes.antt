@@ -1,5 +1,5 @@
 -- What the definitions say of character types and lengths without a fault.
-use Rattle.std.proofs.Common.{◌≡◌, ℕ, ◌+◌, true, false, List, [], ◌∷◌, length, map, ◌&&◌, nat_lt, nat_le, ◌==◌, None, Result, Ok, Err, IfOk, arith, refl}
+use Rattle.std.proofs.Common.{◌≡◌, ℕ, ◌+◌, ℤ, true, false, List, [], ◌∷◌, length, map, ◌&&◌, nat_lt, nat_le, ◌==◌, None, Result, Ok, Err, IfOk, arith, refl}
 use Rattle.std.proofs.lemmas.Bool.Decides.{nat_tests}
 use Rattle.std.specs.List.{list_all}
 use Rattle.metric_words.specs.declared.lengths.Lengths.{Lengths}
@@ -9,7 +9,7 @@ use Rattle.ts_base.specs.Agreement.{Agrees}
 use Rattle.metric_words.specs.Checking.{checked, cause}
 use Rattle.metric_words.specs.Characters.{Character}
 use Rattle.metric_words.specs.Lengths.{char_count, char_type_start, lengths_within}
-use Rattle.metric_words.specs.Sound.{AreSound, IsDesign}
+use Rattle.metric_words.specs.Sound.{AreSound, IsDesign, is_fix, has_fix_measures}
 use Rattle.metric_words.proofs.Same.{within_is}
 use Rattle.metric_words.proofs.SoundParts.{checked-head, checked-value, if-none}
 use Rattle.jfm_load.specs.declared.tables.CharType.{CharType}
@@ -57,10 +57,11 @@ sound_types file l types h =
     rw (← e) (all_types l.ec (char_type_start l) ws (map char_type_of ws) types h)
 
 -- the classes of a file without a fault
-pub sound_classes : (file : List ℕ) (l : Lengths) (size d : ℕ) (types : List CharType) (classes : List Character)
+pub sound_classes : (file : List ℕ) (l : Lengths) (size d : ℕ) (types : List CharType) (classes : List Character) (kerns glues : List ℤ)
     → AreSound l size → HasClasses l → IsDesign d → char_types_in file l ≡ Ok types → length classes ≡ char_count l
-    → AreClasses d types classes
-sound_classes file l size d types classes s japanese design types_are count =
+    → list_all has_fix_measures classes ≡ true → list_all is_fix kerns ≡ true → list_all is_fix glues ≡ true
+    → AreClasses d types classes kerns glues
+sound_classes file l size d types classes kerns glues s japanese design types_are count fix_classes fix_kerns fix_glues =
     let ts = sound_types file l types types_are in
     let bc : l.bc ≡ 0 = japanese.first_class in
     let all : length classes ≡ l.ec + 1 = omega (arith, count) in
@@ -70,6 +71,9 @@ sound_classes file l size d types classes s japanese design types_are count =
       with_class = rw all ts.1;
       some_class = omega arith;
       few_classes = omega (arith, s.last_char);
+      fix_classes = fix_classes;
+      fix_kerns = fix_kerns;
+      fix_glues = fix_glues;
     }
 
 -- what was tested of the lengths of a JFM

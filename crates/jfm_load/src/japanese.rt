@@ -8,7 +8,7 @@ ghost use Rattle.metric_words.specs.Sound.{AreSound};
 ghost use Rattle.ts_geometry.specs.Numbers.{IsWithin};
 ghost use Rattle.jfm_load.specs.Metrics.{metric_of, class_of, measures_of, between_of, param_of};
 ghost use Rattle.jfm_load.specs.Parted.{parts_in};
-ghost use Rattle.jfm_load.specs.Sound.{HasClasses};
+ghost use Rattle.jfm_load.specs.Sound.{HasClasses, HasFixWords};
 
 use crate::char_types::read_char_types;
 use crate::lengths::read_lengths;
@@ -55,7 +55,8 @@ impl Model for Japanese {
       params = j.params.items;
     } };
 
-    ghost invariant = { λ j. AreClasses j.design j.char_types.items j.classes };
+    ghost invariant = { λ j.
+        AreClasses j.design j.char_types.items j.classes j.kerns.items j.glues.items };
 }
 
 // Reads the parts one after the other.
@@ -141,6 +142,15 @@ impl Japanese {
             Some(command) => space_of(&self.kerns, &self.glues, command),
             None => Space::Nothing,
         }
+    }
+
+    /// Shows that the measures, the kerns and the glue, as fix words, are within 16 of 0. Takes no
+    /// memory.
+    pub fn numbers_are_near(&self)
+        ensures { HasFixWords self.now }
+    {
+        // what a loaded metric keeps is known where it is looked at
+        let _design = self.design;
     }
 
     /// Returns a parameter, counted from 1, as a fix word: a part of the size, with 20 binary

@@ -1,12 +1,14 @@
 //! Laws of metrics, over all files.
 
-ghost use Rattle.std.specs.Prelude.{◌≡◌, ℕ, List, ◌+◌, ◌*◌, ◌≤◌, take, Ok, Err};
+ghost use Rattle.std.specs.Prelude.{◌≡◌, ℕ, List, ◌+◌, ◌*◌, ◌≤◌, take, Ok, Err, IsTrue};
 ghost use Rattle.ts_geometry.specs.declared.fault.BadKind.{BadKind};
 ghost use Rattle.metric_words.specs.declared.lengths.Lengths.{Lengths};
 ghost use Rattle.ts_geometry.specs.declared.fault.MetricFault.TheVariants.{Bad};
 ghost use Rattle.metric_words.specs.Words.{halfword};
 ghost use Rattle.metric_words.specs.Checking.{IsFirstBad};
-ghost use Rattle.jfm_load.specs.Metrics.{metric_of, lengths_in, kinds_of};
+ghost use Rattle.jfm_load.specs.Metrics.{Metric, metric_of, lengths_in, kinds_of, measures_of, between_of};
+ghost use Rattle.metric_words.specs.Sound.{AreWithin};
+ghost use Rattle.jfm_load.specs.Sound.{HasFixWords, is_fix_space};
 
 /// A metric is in the words that its file counts, or in its first 28 bytes where these are more:
 /// what follows them is ignored. Each halfword is in its bytes, so also the count of the words.
@@ -28,4 +30,13 @@ pub fn the_first_fault_is_the_first_bad_word()
     ensures fault { (file : List ℕ) (l : Lengths) (kind : BadKind) (i : ℕ)
         → lengths_in file ≡ Ok l → IsFirstBad (kinds_of file l) i kind
         → metric_of file ≡ Err (Bad kind (4 * i)) }
+{}
+
+/// Where the words of a metric are within 16 of 0, what it puts between two classes is, and the
+/// measures of its classes are at each size at most 16 times that size from 0.
+pub fn a_metric_stays_near()
+    ensures between { (m : Metric) (left right : ℕ) → HasFixWords m
+        → IsTrue (is_fix_space (between_of m left right)) }
+    ensures measures { (m : Metric) (class z : ℕ) → HasFixWords m
+        → AreWithin (16 * z) (measures_of m class z) }
 {}

@@ -1,5 +1,5 @@
 -- What the definitions say of lengths and tables without a fault.
-use Rattle.std.proofs.Common.{◌≡◌, ℕ, zero, suc, ◌+◌, ◌*◌, ◌/◌, ◌%◌, ◌≤◌, ◌<◌, Bool, true, false, List, [], ◌∷◌, length, get_or, map, ◌||◌, ◌&&◌, not, nat_lt, nat_le, ◌==◌, if◌then◌else◌, Option, Some, None, Ok, arith, refl, ap, sym, ◌∙◌, ℤ}
+use Rattle.std.proofs.Common.{◌≡◌, ℕ, zero, suc, ◌+◌, ◌*◌, ◌/◌, ◌%◌, ◌≤◌, ◌<◌, Bool, true, false, List, [], ◌∷◌, length, get_or, map, ◌||◌, ◌&&◌, not, nat_lt, nat_le, ◌==◌, if◌then◌else◌, Option, Some, None, Ok, arith, refl, ap, sym, ◌∙◌, ℤ, pos}
 use Rattle.std.proofs.lemmas.Bool.Decides.{nat_tests}
 use Rattle.std.proofs.lemmas.List.{length-map}
 use Rattle.std.specs.List.{list_all}
@@ -9,10 +9,10 @@ use Rattle.metric_words.specs.declared.characters.CharInfo.{CharInfo}
 use Rattle.metric_words.specs.Words.{words, first_byte, second_byte, third_byte, fourth_byte}
 use Rattle.metric_words.specs.Checking.{checked}
 use Rattle.metric_words.specs.Lengths.{contradict, char_count, char_info_start}
-use Rattle.metric_words.specs.FixWords.{design_kind, fix_of, fix_kind, zero_kind, table_kinds, table_in}
-use Rattle.metric_words.specs.Characters.{char_info_of, info_kind, info_words}
+use Rattle.metric_words.specs.FixWords.{design_kind, fix_of, fix_kind, zero_kind, table_kinds, table_in, fix_words_in}
+use Rattle.metric_words.specs.Characters.{char_info_of, info_kind, info_words, character_in}
 use Rattle.metric_words.specs.Parted.{infos_in}
-use Rattle.metric_words.specs.Sound.{AreSound, AreCharacters, IsDesign, has_places, is_fix}
+use Rattle.metric_words.specs.Sound.{AreSound, AreCharacters, IsDesign, has_places, has_fix_measures, is_fix}
 use Rattle.metric_words.proofs.Chain.{length-words}
 
 pub sound_lengths : (l : Lengths) (size : ℕ) → contradict l ≡ false → 4 * l.lf ≤ size → l.lf ≤ 65535 → AreSound l size
@@ -127,3 +127,28 @@ pub all_at : {X : Type 0} (p : X → Bool) (xs : List X) (i : ℕ) (d : X) → l
 all_at p [] i d h lt = absurd (omega arith)
 all_at p (x ∷ xs) zero d h lt = grind (arith, nat_tests)
 all_at p (x ∷ xs) (suc i) d h lt = all_at p xs i d (grind (arith, nat_tests)) (omega arith)
+
+-- what is read of kerns and glue
+pub sound_words : (file : List ℕ) (from n : ℕ) (table : List ℤ) → fix_words_in file from n ≡ Ok table → list_all is_fix table ≡ true
+sound_words file from n table h =
+    let ws = words file from n in
+    let e = checked-value from (map fix_kind ws) (map fix_of ws) table h in
+    rw (← e) (good_values fix_kind fix_of is_fix good_fix from ws (map fix_of ws) table h)
+
+-- each entry passes the test, and so does what stands for one that isn't there
+pub passes_at : {X : Type 0} (p : X → Bool) (xs : List X) (i : ℕ) (d : X) → p d ≡ true → list_all p xs ≡ true → p (get_or xs i d) ≡ true
+passes_at p [] i d none h = none
+passes_at p (x ∷ xs) zero d none h = grind (arith, nat_tests)
+passes_at p (x ∷ xs) (suc i) d none h = passes_at p xs i d none (grind (arith, nat_tests))
+
+-- the word at each place, and 0 where there is none
+pub fix_at : (table : List ℤ) (i : ℕ) → list_all is_fix table ≡ true → is_fix (get_or table i (pos 0)) ≡ true
+fix_at table i h = passes_at is_fix table i (pos 0) refl h
+
+-- characters by sound tables
+pub fix_characters : (infos : List CharInfo) (widths heights depths : List ℤ)
+    → list_all is_fix widths ≡ true → list_all is_fix heights ≡ true → list_all is_fix depths ≡ true
+    → list_all has_fix_measures (map (character_in widths heights depths) infos) ≡ true
+fix_characters [] widths heights depths w h d = refl
+fix_characters (info ∷ infos) widths heights depths w h d =
+    rw (fix_at widths info.width w, fix_at heights info.height h, fix_at depths info.depth d, fix_characters infos widths heights depths w h d) refl

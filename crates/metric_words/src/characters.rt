@@ -8,7 +8,7 @@ ghost use Rattle.metric_words.specs.Checking.{cause};
 ghost use Rattle.metric_words.specs.Lengths.{char_count};
 ghost use Rattle.metric_words.specs.Characters as spec;
 ghost use Rattle.metric_words.specs.Parted as parted;
-ghost use Rattle.metric_words.specs.Sound.{AreSound, is_fix};
+ghost use Rattle.metric_words.specs.Sound.{AreSound, is_fix, has_fix_measures};
 ghost use Rattle.ts_geometry.specs.Numbers.{IsWithin};
 
 use crate::fix_words::{check_table, read_table};
@@ -123,6 +123,7 @@ impl Characters {
         ensures exact { Agrees (λ c. c) cause result
             (parted.characters_in_parts bytes.now lengths.now) }
         ensures count { IfOk result (λ c. length c ≡ char_count lengths.now) }
+        ensures fix { IfOk result (λ c. IsTrue (list_all has_fix_measures c)) }
     {
         let infos = read_infos(alloc, bytes, lengths)?;
         let widths = read_table(alloc, bytes, lengths.width_start(), usize::from(lengths.nw))?;
@@ -149,6 +150,7 @@ impl Characters {
         requires { AreSound lengths.now (length bytes.now) }
         ensures exact { Agrees (λ c. c) cause result (spec.characters_in bytes.now lengths.now) }
         ensures count { IfOk result (λ c. length c ≡ char_count lengths.now) }
+        ensures fix { IfOk result (λ c. IsTrue (list_all has_fix_measures c)) }
     {
         Characters::parts(alloc, bytes, lengths)
     }

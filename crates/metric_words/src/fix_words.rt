@@ -1,11 +1,12 @@
 //! Fix words and tables of them, each read up to its first bad word.
 
-ghost use Rattle.std.specs.Prelude.{◌≡◌, ◌+◌, ◌*◌, ◌≤◌, length, map, [], IfOk};
+ghost use Rattle.std.specs.Prelude.{◌≡◌, ◌+◌, ◌*◌, ◌≤◌, length, map, [], IfOk, IsTrue};
+ghost use Rattle.std.specs.List.{list_all};
 ghost use Rattle.ts_base.specs.Agreement.{Agrees};
 ghost use Rattle.metric_words.specs.Checking.{cause};
 ghost use Rattle.metric_words.specs.FixWords as spec;
 ghost use Rattle.metric_words.specs.Words.{words};
-ghost use Rattle.metric_words.specs.Sound.{AreSound, IsDesign};
+ghost use Rattle.metric_words.specs.Sound.{AreSound, IsDesign, is_fix};
 ghost use Rattle.metric_words.specs.Left.{left};
 
 use crate::lengths::Lengths;
@@ -92,7 +93,8 @@ pub fn read_fix_words(
 ) -> Result<Vec<i32>, MetricFault>
     requires inside { 4 * (start + len) ≤ length bytes.now }
     requires whole { start + len ≤ 65535 }
-    ensures { Agrees (λ v. v.items) cause result (spec.fix_words_in bytes.now start len) }
+    ensures exact { Agrees (λ v. v.items) cause result (spec.fix_words_in bytes.now start len) }
+    ensures fix { IfOk result (λ v. IsTrue (list_all is_fix v.items)) }
 {
     let mut table = table_of(alloc, len)?;
     append_fix_words(bytes, start, start + len, &mut table)?;

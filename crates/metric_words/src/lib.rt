@@ -11,7 +11,7 @@ mod words;
 
 pub use characters::Characters;
 pub use fix_words::{param_in, read_design, read_fix_words, read_params};
-pub use laws::the_first_fault_is_the_first_bad_word;
+pub use laws::{fix_words_stay_near, the_first_fault_is_the_first_bad_word};
 pub use lengths::{Lengths, begins_as_jfm};
 pub use program::{Command, command_of, find};
 pub use words::{

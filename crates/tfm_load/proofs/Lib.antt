@@ -2,3 +2,4 @@ pub mod Chain
 pub mod FirstFault
 pub mod Prefix
 pub mod Starts
+pub mod Near

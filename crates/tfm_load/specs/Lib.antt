@@ -1,3 +1,4 @@
 pub mod Programs
 pub mod Metrics
+pub mod Sound
 pub mod Parted

@@ -8,6 +8,7 @@ ghost use Rattle.metric_words.specs.Sound.{AreSound};
 ghost use Rattle.ts_geometry.specs.Numbers.{IsWithin};
 ghost use Rattle.tfm_load.specs.Metrics.{metric_of, has_character, measures_of, program_of, pair_of, param_of};
 ghost use Rattle.tfm_load.specs.Parted.{parts_in};
+ghost use Rattle.tfm_load.specs.Sound.{HasFixWords};
 
 use crate::lengths::read_lengths;
 use crate::programs::{Step, find_from_first, read_commands, step_of};
@@ -32,7 +33,7 @@ pub struct Roman {
 
 impl Model for Roman {
     ghost use Rattle.tfm_load.specs.Metrics.{Metric};
-    ghost use Rattle.metric_words.specs.Sound.{IsDesign};
+    ghost use Rattle.tfm_load.specs.Sound.{AreTables};
 
     ghost Value = { Metric };
 
@@ -46,7 +47,7 @@ impl Model for Roman {
       params = r.params.items;
     } };
 
-    ghost invariant = { λ r. IsDesign r.design };
+    ghost invariant = { λ r. AreTables r.design r.characters r.kerns.items };
 }
 
 // Reads the parts one after the other.
@@ -140,6 +141,14 @@ impl Roman {
             Some(command) => step_of(&self.kerns, command),
             None => Step::Nothing,
         }
+    }
+
+    /// Shows that the measures and the kerns, as fix words, are within 16 of 0. Takes no memory.
+    pub fn numbers_are_near(&self)
+        ensures { HasFixWords self.now }
+    {
+        // what a loaded metric keeps is known where it is looked at
+        let _design = self.design;
     }
 
     /// Returns a parameter, counted from 1, as a fix word: a part of the size, with 20 binary
