@@ -1,3 +1,4 @@
 pub mod Arrivals
 pub mod Joining
 pub mod Lending
+pub mod Soundness

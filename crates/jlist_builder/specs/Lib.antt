@@ -3,3 +3,4 @@ pub mod Pieces
 pub mod Spaces
 pub mod Gaps
 pub mod Stands
+pub mod Sound

@@ -4,6 +4,7 @@
 mod builder;
 mod character;
 mod gaps;
+pub mod laws;
 mod puts;
 mod space;
 

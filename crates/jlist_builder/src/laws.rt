@@ -1,0 +1,16 @@
+//! Laws of metric lists, over all entries.
+
+ghost use Rattle.jlist_builder.specs.Sound.{MetricListsAreSound};
+
+use box_tree::laws::lists_of_sound_items_are_sound;
+use metric_words::fix_words_stay_near;
+
+/// The metric list of sound entries is sound.
+pub fn metric_lists_are_sound()
+    ensures { MetricListsAreSound }
+{
+    fix_words_stay_near();
+    tfm_load::a_metric_stays_near();
+    jfm_load::a_metric_stays_near();
+    lists_of_sound_items_are_sound();
+}
