@@ -4,3 +4,4 @@ pub mod Widows
 pub mod Passing
 pub mod Keeping
 pub mod Sums
+pub mod Soundness

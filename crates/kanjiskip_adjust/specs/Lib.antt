@@ -2,3 +2,4 @@ pub mod EndCodes
 pub mod Finished
 pub mod Walks
 pub mod Nodes
+pub mod Laws

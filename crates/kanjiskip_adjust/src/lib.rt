@@ -2,6 +2,7 @@
 #![tactic(auto)]
 
 mod codes;
+pub mod laws;
 mod look;
 mod nodes;
 mod skip;
