@@ -29,13 +29,17 @@ use Rattle.control_faults.specs.TurnFaults.{of_gullet, turn_stop}
 
 -- ---- each token leaves less
 
-if_fault : {X E D : Type 0} (becomes : E → D) (a : Result X E) (P : X → Type 0) → IfOk a P → IfOk (with_fault becomes a) P
+pub if_fault : {X E D : Type 0} (becomes : E → D) (a : Result X E) (P : X → Type 0) → IfOk a P → IfOk (with_fault becomes a) P
 if_fault becomes (Ok x) P has = has
 if_fault becomes (Err e) P has = tt
 
-if_bind : {X Y E : Type 0} (a : Result X E) (f : X → Result Y E) (P : X → Type 0) (Q : Y → Type 0) → IfOk a P → ((x : X) → P x → IfOk (f x) Q) → IfOk (a >>= f) Q
+pub if_bind : {X Y E : Type 0} (a : Result X E) (f : X → Result Y E) (P : X → Type 0) (Q : Y → Type 0) → IfOk a P → ((x : X) → P x → IfOk (f x) Q) → IfOk (a >>= f) Q
 if_bind (Ok x) f P Q has goes = goes x has
 if_bind (Err e) f P Q has goes = tt
+
+pub if_weaker : {X E : Type 0} (a : Result X E) (P Q : X → Type 0) → IfOk a P → ((x : X) → P x → Q x) → IfOk a Q
+if_weaker (Ok x) P Q has goes = goes x has
+if_weaker (Err e) P Q has goes = tt
 
 if_given : {X E : Type 0} (a : Result X E) (P : X → Type 0) → ((x : X) → a ≡ Ok x → P x) → IfOk a P
 if_given (Ok x) P has = has x refl
@@ -62,11 +66,27 @@ raw_falls w = if_bind (with_fault (turn_stop of_gullet) (with_fault (stop_as of_
 taken_falls : (what : Sought) (w : World) → IfOk (taken what w) (λ t. size t.1.at < size w.at)
 taken_falls sought.Name w = raw_falls w
 taken_falls sought.Value w = raw_falls w
+taken_falls sought.NonSpace w = next_falls w
 taken_falls sought.Solid w = next_falls w
 taken_falls (sought.Assignment p) w = next_falls w
 
 taken_less : (what : Sought) (w : World) (t : Token × World) → taken what w ≡ Ok t → size t.1.at < size w.at
 taken_less what w t is = IfOk-at_ok (λ (u : Token × World). size u.1.at < size w.at) is (taken_falls what w)
+
+on_falls : (more : Sought → World → Outcome (Finding × World)) (next : Option Sought) (what : Sought) (t : Token × World) (n : ℕ) → size t.1.at < n
+    → ((s : Sought) → IfOk (more s t.1) (λ f. size f.1.at < size t.1.at)) → IfOk (sought_as more next what t) (λ f. size f.1.at < n)
+on_falls more (Some s) what t n less goes = if_weaker (more s t.1) (λ f. size f.1.at < size t.1.at) _ (goes s) (λ f fewer. omega (arith, less, fewer))
+on_falls more None what t n less goes = less
+
+within_falls : (n : ℕ) (what : Sought) (w : World) → IfOk (found_within n what w) (λ f. size f.1.at < size w.at)
+unfolding found_within
+within_falls zero what w = if_bind (taken what w) _ (λ t. size t.1.at < size w.at) _ (taken_falls what w) (λ t less. less)
+within_falls (suc n) what w = if_bind (taken what w) (sought_on (found_within n) what) (λ t. size t.1.at < size w.at) _ (taken_falls what w) (λ t less.
+    on_falls (found_within n) (passed t.1.nest what t.0) what t (size w.at) less (λ s. within_falls n s t.1))
+
+pub found_falls : (what : Sought) (w : World) → IfOk (found what w) (λ f. size f.1.at < size w.at)
+unfolding found
+found_falls what w = within_falls (suc (size w.at)) what w
 
 -- ---- enough levels are enough
 

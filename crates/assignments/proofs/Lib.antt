@@ -1,3 +1,4 @@
 pub mod Refusals
 pub mod Fitting
 pub mod Found
+pub mod Leaving

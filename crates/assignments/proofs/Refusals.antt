@@ -10,10 +10,11 @@ use Rattle.env_groups.specs.Environments.{Nest, env_cause}
 use Rattle.mouth.specs.declared.place.Place.{Place}
 use Rattle.mouth.specs.Reading.{Reading, Stop, at_place, stop_cause, place_of}
 use Rattle.expander.specs.declared.gullet_fault.GulletFault.{GulletFault}
+use Rattle.expander.specs.declared.gullet_fault.GulletFault.TheVariants as gullet_faults
 use Rattle.expander.specs.GulletFaults.{gullet_cause}
 use Rattle.expander.specs.Worlds.{World, world}
 use Rattle.control_faults.specs.declared.turn_fault.TurnFault.{TurnFault}
-use Rattle.control_faults.specs.TurnFaults.{read_cause, of_gullet, of_env, turn_stop}
+use Rattle.control_faults.specs.TurnFaults.{read_cause, sink_cause, of_gullet, of_env, turn_stop}
 use Rattle.control_faults.proofs.Causes.{gullet_comes_so, env_comes_so}
 use Rattle.assignments.specs.Worlds.{Outcome, in_env}
 
@@ -86,3 +87,45 @@ pub refuses_as : {X Y : Type 0} (view : X → Y) (place : Place) (result : Resul
     → AgreesFault (read_cause e) (at_place place e) b → Agrees view (stop_cause read_cause) (with_fault (at_place place) result) a
 refuses_as view place (Ok x) e a b exit same agrees = absurd (false≢true exit.0)
 refuses_as view place (Err d) e a b exit same agrees = rw exit.1 (same_agrees (read_cause e) (at_place place e) a b same agrees)
+
+-- ---- what the shipper counts
+
+-- No fault of the gullet is the shipper's.
+pub gullet_unshipped : (e : GulletFault) → IsUncounted (sink_cause (of_gullet e))
+gullet_unshipped gullet_faults.Undefined = tt
+gullet_unshipped gullet_faults.UseMismatch = tt
+gullet_unshipped gullet_faults.ArgParagraph = tt
+gullet_unshipped gullet_faults.FileEnded = tt
+gullet_unshipped gullet_faults.BadParameter = tt
+gullet_unshipped gullet_faults.ExtraCond = tt
+gullet_unshipped gullet_faults.CsnameEnd = tt
+gullet_unshipped gullet_faults.NoBrace = tt
+gullet_unshipped gullet_faults.NoName = tt
+gullet_unshipped gullet_faults.FileMissing = tt
+gullet_unshipped gullet_faults.InputsFull = tt
+gullet_unshipped gullet_faults.TokensFull = tt
+gullet_unshipped gullet_faults.NoEnd = tt
+gullet_unshipped gullet_faults.DepthFull = tt
+gullet_unshipped gullet_faults.Budget = tt
+gullet_unshipped gullet_faults.BadChar = tt
+gullet_unshipped gullet_faults.NamesFull = tt
+gullet_unshipped gullet_faults.TooManyLines = tt
+gullet_unshipped gullet_faults.LineTooLong = tt
+gullet_unshipped (gullet_faults.BadByte place) = tt
+gullet_unshipped gullet_faults.NoNumber = tt
+gullet_unshipped gullet_faults.NumberRange = tt
+gullet_unshipped gullet_faults.NoUnit = tt
+gullet_unshipped gullet_faults.DimenRange = tt
+gullet_unshipped gullet_faults.RegisterRange = tt
+gullet_unshipped gullet_faults.CodeRange = tt
+gullet_unshipped gullet_faults.ReadFault = tt
+gullet_unshipped gullet_faults.NoMemory = tt
+
+-- Nor is one of the environment.
+pub env_unshipped : (e : EnvFault) → IsUncounted (sink_cause (of_env e))
+env_unshipped env_faults.RegisterRange = tt
+env_unshipped env_faults.CodeRange = tt
+env_unshipped env_faults.FontsFull = tt
+env_unshipped env_faults.GroupsFull = tt
+env_unshipped env_faults.GroupEnd = tt
+env_unshipped env_faults.NoMemory = tt

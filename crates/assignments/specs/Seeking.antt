@@ -20,7 +20,7 @@ use Rattle.assignments.specs.declared.command.Command.TheVariants as commands
 use Rattle.assignments.specs.declared.seeking.Sought.{Sought}
 use Rattle.assignments.specs.declared.seeking.Sought.TheVariants as sought
 use Rattle.assignments.specs.Worlds.{Outcome, checked}
-use Rattle.assignments.specs.Reads.{next_token, raw_token}
+use Rattle.assignments.specs.Reads.{next_token, raw_token, put_back}
 use Rattle.assignments.specs.Commands.{command_in, meant}
 
 -- ---- prefixes
@@ -38,11 +38,12 @@ with_prefix p _ = None
 abbrev pub passed_if : Bool → Sought → Option Sought
 passed_if passes what = if passes then Some what else None
 
--- A token is passed over, and what is sought then, or it isn't: before a name spaces are, before the value of a \let also those
--- by \let, before anything else also \relax, and before an assignment also prefixes, which are kept.
+-- A token is passed over, and what is sought then, or it isn't: before a name spaces are, before the value of a \let and after
+-- \ignorespaces also those by \let, before anything else also \relax, and before an assignment also prefixes, which are kept.
 unfoldable pub passed : Nest → Sought → Token → Option Sought
 passed nest sought.Name token = passed_if (is_category 10 token) sought.Name
 passed nest sought.Value token = passed_if (means_category 10 (meaning_of nest token)) sought.Value
+passed nest sought.NonSpace token = passed_if (means_category 10 (meant nest token)) sought.NonSpace
 passed nest sought.Solid token = passed_if (is_blank (meant nest token)) sought.Solid
 passed nest (sought.Assignment p) token =
     if is_blank (meant nest token) then Some (sought.Assignment p) else with_prefix p (command_in nest token)
@@ -51,6 +52,7 @@ passed nest (sought.Assignment p) token =
 abbrev pub taken : Sought → World → Outcome (Token × World)
 taken sought.Name w = raw_token w
 taken sought.Value w = raw_token w
+taken sought.NonSpace w = next_token w
 taken sought.Solid w = next_token w
 taken (sought.Assignment p) w = next_token w
 
@@ -88,3 +90,9 @@ name w = found sought.Name w >>= λ f. checked name_of (f.0.1, f.1)
 -- the next token that is expanded, neither a space nor \relax
 unfoldable pub solid_token : World → Outcome (Token × World)
 solid_token w = found sought.Solid w >>= λ f. Ok (f.0.1, f.1)
+
+-- ---- spaces
+
+-- Spaces are passed over, and the first other token is met again.
+unfoldable pub spaces_ignored : World → Outcome World
+spaces_ignored w = found sought.NonSpace w >>= λ f. put_back f.0.1 f.1

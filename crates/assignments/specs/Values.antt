@@ -28,12 +28,10 @@ is_within most z = int_le (neg_ℤ (pos most)) z && int_le z (pos most)
 abbrev pub is_dimen : Sp → Bool
 is_dimen d = is_within max_dimen d.0
 
-abbrev pub has_dimens : Glue → Bool
-has_dimens g = is_dimen g.width && (is_dimen g.stretch && is_dimen g.shrink)
-
--- what a scan found, where it is of the kind that was wanted and within its range
+-- What a scan found, where it is of the kind that was wanted. Only the measure of a box, as it is seen from a list of another
+-- direction, may pass the range of a dimension.
 abbrev pub whole_integer : Value → Result ℤ FaultKind
-whole_integer (values.Integer n) = if is_within max_int n then Ok n else Err NumberRange
+whole_integer (values.Integer n) = Ok n
 whole_integer _ = Err NoNumber
 
 abbrev pub whole_dimen : Value → Result Sp FaultKind
@@ -41,7 +39,7 @@ whole_dimen (values.Dimen d) = if is_dimen d then Ok d else Err DimenRange
 whole_dimen _ = Err NoNumber
 
 abbrev pub whole_glue : Value → Result Glue FaultKind
-whole_glue (values.Glue g) = if has_dimens g then Ok g else Err DimenRange
+whole_glue (values.Glue g) = Ok g
 whole_glue _ = Err NoNumber
 
 -- ---- values

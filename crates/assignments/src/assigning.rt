@@ -1,10 +1,11 @@
 //! Assignments with their prefixes.
 
-ghost use Rattle.std.specs.Prelude.{◌≡◌, OnOk};
-ghost use Rattle.ts_base.specs.Agreement.{Counts};
-ghost use Rattle.mouth.specs.Keeping.{AgreesAt, AreOpen, AreTold, IsReadable};
+ghost use Rattle.std.specs.Prelude.{◌≡◌, ◌≤◌, OnOk};
+ghost use Rattle.ts_base.specs.Agreement.{Counts, Uncounted};
+ghost use Rattle.mouth.specs.Keeping.{reading, AgreesAt, AreOpen, AreTold, IsReadable};
+ghost use Rattle.mouth.specs.Sizes.{size};
 ghost use Rattle.expander.specs.Holding.{AreFit, Goes};
-ghost use Rattle.control_faults.specs.TurnFaults.{read_cause};
+ghost use Rattle.control_faults.specs.TurnFaults.{read_cause, sink_cause};
 ghost use Rattle.assignments.specs.Worlds.{world_of};
 ghost use Rattle.assignments.specs.Assignments.{done, carried_out, misplaces_long as the_misplaces_long, prefixes_of as the_prefixes_of, ready_as, ready, assigned};
 
@@ -66,6 +67,9 @@ fn perform<F: Files>(
     ensures goes { Goes gullet.old (F.state files.old) gullet.new (F.state files.new) }
     ensures readable { OnOk result (IsReadable gullet.new) }
     ensures fit { AreFit gullet.new.names env.new }
+    ensures size { OnOk result (size (reading gullet.new (F.state files.new))
+        ≤ size (reading gullet.old (F.state files.old))) }
+    ensures unshipped { Uncounted sink_cause result }
     ensures counted { Counts read_cause result (F.state files.old).faults
         (F.state files.new).faults }
 {
@@ -104,6 +108,9 @@ pub fn carry_out<F: Files>(
     ensures goes { Goes gullet.old (F.state files.old) gullet.new (F.state files.new) }
     ensures readable { OnOk result (IsReadable gullet.new) }
     ensures fit { AreFit gullet.new.names env.new }
+    ensures size { OnOk result (size (reading gullet.new (F.state files.new))
+        ≤ size (reading gullet.old (F.state files.old))) }
+    ensures unshipped { Uncounted sink_cause result }
     ensures counted { Counts read_cause result (F.state files.old).faults
         (F.state files.new).faults }
 {
@@ -132,6 +139,9 @@ pub fn read_prefixes<F: Files>(
     ensures goes { Goes gullet.old (F.state files.old) gullet.new (F.state files.new) }
     ensures readable { OnOk result (IsReadable gullet.new) }
     ensures fit { AreFit gullet.new.names env.new }
+    ensures size { OnOk result (size (reading gullet.new (F.state files.new))
+        ≤ size (reading gullet.old (F.state files.old))) }
+    ensures unshipped { Uncounted sink_cause result }
     ensures counted { Counts read_cause result (F.state files.old).faults
         (F.state files.new).faults }
 {
@@ -166,6 +176,9 @@ pub fn assign<F: Files>(
     ensures goes { Goes gullet.old (F.state files.old) gullet.new (F.state files.new) }
     ensures readable { OnOk result (IsReadable gullet.new) }
     ensures fit { AreFit gullet.new.names env.new }
+    ensures size { OnOk result (size (reading gullet.new (F.state files.new))
+        ≤ size (reading gullet.old (F.state files.old))) }
+    ensures unshipped { Uncounted sink_cause result }
     ensures counted { Counts read_cause result (F.state files.old).faults
         (F.state files.new).faults }
 {

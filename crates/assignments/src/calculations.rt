@@ -1,10 +1,11 @@
 //! `\advance`, `\multiply` and `\divide` (TeX: The Program, sections 1236 to 1240).
 
-ghost use Rattle.std.specs.Prelude.{◌≡◌, List, IfSome, OnOk};
+ghost use Rattle.std.specs.Prelude.{◌≡◌, ◌≤◌, List, IfSome, OnOk};
 ghost use Rattle.ts_base.specs.Agreement.{Agrees, Counts, Uncounted};
-ghost use Rattle.mouth.specs.Keeping.{AgreesAt, AreOpen, AreTold, IsReadable};
+ghost use Rattle.mouth.specs.Keeping.{reading, AgreesAt, AreOpen, AreTold, IsReadable};
+ghost use Rattle.mouth.specs.Sizes.{size};
 ghost use Rattle.expander.specs.Holding.{AreFit, Goes};
-ghost use Rattle.control_faults.specs.TurnFaults.{read_cause};
+ghost use Rattle.control_faults.specs.TurnFaults.{read_cause, sink_cause};
 ghost use Rattle.assignments.specs.Worlds.{world_of};
 ghost use Rattle.tok_lists.specs.declared.spelling.Spelling.{Spelling};
 ghost use Rattle.box_tree.specs.Bounds.{IsDimen};
@@ -95,7 +96,7 @@ fn glue_result(operation: Operation, old: Glue, by: i64) -> Option<Glue>
     }
 }
 
-#[tactic(auto, using(crate::proofs::Refusals::env_refuses, crate::proofs::Refusals::env_quiet))]
+#[tactic(auto, using(crate::proofs::Refusals::env_refuses, crate::proofs::Refusals::env_quiet, crate::proofs::Refusals::env_unshipped))]
 fn change_int(
     env: &mut Env,
     operation: Operation,
@@ -108,13 +109,14 @@ fn change_int(
         (int_changed env.old key (λ old. the_integer_result operation old by) global) }
     ensures fit { (names : List Spelling) → AreFit names env.old → AreFit names env.new }
     ensures quiet { Uncounted read_cause result }
+    ensures unshipped { Uncounted sink_cause result }
 {
     let old = env.get_int(key)?;
     let value = integer_result(operation, old, by).ok_or(TurnFault::Kind(FaultKind::Arithmetic))?;
     store_int(env, key, value, global)
 }
 
-#[tactic(auto, using(crate::proofs::Refusals::env_refuses, crate::proofs::Refusals::env_quiet))]
+#[tactic(auto, using(crate::proofs::Refusals::env_refuses, crate::proofs::Refusals::env_quiet, crate::proofs::Refusals::env_unshipped))]
 fn change_dim(
     env: &mut Env,
     operation: Operation,
@@ -127,13 +129,14 @@ fn change_dim(
         (dim_changed env.old key (λ old. the_dimen_result operation old by) global) }
     ensures fit { (names : List Spelling) → AreFit names env.old → AreFit names env.new }
     ensures quiet { Uncounted read_cause result }
+    ensures unshipped { Uncounted sink_cause result }
 {
     let old = env.get_dim(key)?;
     let value = dimen_result(operation, old, by).ok_or(TurnFault::Kind(FaultKind::Arithmetic))?;
     store_dim(env, key, value, global)
 }
 
-#[tactic(auto, using(crate::proofs::Refusals::env_refuses, crate::proofs::Refusals::env_quiet))]
+#[tactic(auto, using(crate::proofs::Refusals::env_refuses, crate::proofs::Refusals::env_quiet, crate::proofs::Refusals::env_unshipped))]
 fn change_glue(
     env: &mut Env,
     operation: Operation,
@@ -146,32 +149,35 @@ fn change_glue(
         (glue_changed env.old key (λ old. the_glue_result operation old by) global) }
     ensures fit { (names : List Spelling) → AreFit names env.old → AreFit names env.new }
     ensures quiet { Uncounted read_cause result }
+    ensures unshipped { Uncounted sink_cause result }
 {
     let old = env.get_glue(key)?;
     let value = glue_result(operation, old, by).ok_or(TurnFault::Kind(FaultKind::Arithmetic))?;
     store_glue(env, key, value, global)
 }
 
-#[tactic(auto, using(crate::proofs::Refusals::env_refuses, crate::proofs::Refusals::env_quiet))]
+#[tactic(auto, using(crate::proofs::Refusals::env_refuses, crate::proofs::Refusals::env_quiet, crate::proofs::Refusals::env_unshipped))]
 fn add_dim(env: &mut Env, key: DimKey, by: Sp, global: bool) -> Result<(), TurnFault>
     requires by { IsDimen by }
     ensures exact { Agrees (λ _. env.new) read_cause result
         (dim_changed env.old key (λ old. dimen_advanced old by) global) }
     ensures fit { (names : List Spelling) → AreFit names env.old → AreFit names env.new }
     ensures quiet { Uncounted read_cause result }
+    ensures unshipped { Uncounted sink_cause result }
 {
     let old = env.get_dim(key)?;
     let value = advance_dimen(old, by).ok_or(TurnFault::Kind(FaultKind::Arithmetic))?;
     store_dim(env, key, value, global)
 }
 
-#[tactic(auto, using(crate::proofs::Refusals::env_refuses, crate::proofs::Refusals::env_quiet))]
+#[tactic(auto, using(crate::proofs::Refusals::env_refuses, crate::proofs::Refusals::env_quiet, crate::proofs::Refusals::env_unshipped))]
 fn add_glue(env: &mut Env, key: GlueKey, by: Glue, global: bool) -> Result<(), TurnFault>
     requires by { HasSetDimens by }
     ensures exact { Agrees (λ _. env.new) read_cause result
         (glue_changed env.old key (λ old. glue_advanced old by) global) }
     ensures fit { (names : List Spelling) → AreFit names env.old → AreFit names env.new }
     ensures quiet { Uncounted read_cause result }
+    ensures unshipped { Uncounted sink_cause result }
 {
     let old = env.get_glue(key)?;
     let value = advance_glue(old, by).ok_or(TurnFault::Kind(FaultKind::Arithmetic))?;
@@ -197,6 +203,9 @@ fn calculate_int<F: Files>(
     ensures goes { Goes gullet.old (F.state files.old) gullet.new (F.state files.new) }
     ensures readable { OnOk result (IsReadable gullet.new) }
     ensures fit { AreFit gullet.new.names env.new }
+    ensures size { OnOk result (size (reading gullet.new (F.state files.new))
+        ≤ size (reading gullet.old (F.state files.old))) }
+    ensures unshipped { Uncounted sink_cause result }
     ensures counted { Counts read_cause result (F.state files.old).faults
         (F.state files.new).faults }
 {
@@ -224,6 +233,9 @@ fn calculate_dim<F: Files>(
     ensures goes { Goes gullet.old (F.state files.old) gullet.new (F.state files.new) }
     ensures readable { OnOk result (IsReadable gullet.new) }
     ensures fit { AreFit gullet.new.names env.new }
+    ensures size { OnOk result (size (reading gullet.new (F.state files.new))
+        ≤ size (reading gullet.old (F.state files.old))) }
+    ensures unshipped { Uncounted sink_cause result }
     ensures counted { Counts read_cause result (F.state files.old).faults
         (F.state files.new).faults }
 {
@@ -255,6 +267,9 @@ fn calculate_glue<F: Files>(
     ensures goes { Goes gullet.old (F.state files.old) gullet.new (F.state files.new) }
     ensures readable { OnOk result (IsReadable gullet.new) }
     ensures fit { AreFit gullet.new.names env.new }
+    ensures size { OnOk result (size (reading gullet.new (F.state files.new))
+        ≤ size (reading gullet.old (F.state files.old))) }
+    ensures unshipped { Uncounted sink_cause result }
     ensures counted { Counts read_cause result (F.state files.old).faults
         (F.state files.new).faults }
 {
@@ -284,6 +299,9 @@ fn calculate_variable<F: Files>(
     ensures goes { Goes gullet.old (F.state files.old) gullet.new (F.state files.new) }
     ensures readable { OnOk result (IsReadable gullet.new) }
     ensures fit { AreFit gullet.new.names env.new }
+    ensures size { OnOk result (size (reading gullet.new (F.state files.new))
+        ≤ size (reading gullet.old (F.state files.old))) }
+    ensures unshipped { Uncounted sink_cause result }
     ensures counted { Counts read_cause result (F.state files.old).faults
         (F.state files.new).faults }
 {
@@ -311,6 +329,9 @@ fn take_numeric<F: Files>(
     ensures goes { Goes gullet.old (F.state files.old) gullet.new (F.state files.new) }
     ensures readable { OnOk result (IsReadable gullet.new) }
     ensures fit { AreFit gullet.new.names env.new }
+    ensures size { OnOk result (size (reading gullet.new (F.state files.new))
+        ≤ size (reading gullet.old (F.state files.old))) }
+    ensures unshipped { Uncounted sink_cause result }
     ensures counted { Counts read_cause result (F.state files.old).faults
         (F.state files.new).faults }
 {
@@ -339,6 +360,9 @@ pub(crate) fn calculate<F: Files>(
     ensures goes { Goes gullet.old (F.state files.old) gullet.new (F.state files.new) }
     ensures readable { OnOk result (IsReadable gullet.new) }
     ensures fit { AreFit gullet.new.names env.new }
+    ensures size { OnOk result (size (reading gullet.new (F.state files.new))
+        ≤ size (reading gullet.old (F.state files.old))) }
+    ensures unshipped { Uncounted sink_cause result }
     ensures counted { Counts read_cause result (F.state files.old).faults
         (F.state files.new).faults }
 {

@@ -4,7 +4,7 @@ ghost use Rattle.std.specs.Prelude.{◌≡◌, List};
 ghost use Rattle.ts_base.specs.Agreement.{Agrees, Uncounted};
 ghost use Rattle.tok_lists.specs.declared.spelling.Spelling.{Spelling};
 ghost use Rattle.expander.specs.Holding.{AreFit};
-ghost use Rattle.control_faults.specs.TurnFaults.{read_cause};
+ghost use Rattle.control_faults.specs.TurnFaults.{read_cause, sink_cause};
 ghost use Rattle.assignments.specs.Groups.{brace_group as the_brace_group, grouping_of as the_grouping_of, group_changed};
 
 use control_faults::TurnFault;
@@ -44,11 +44,12 @@ pub fn grouping_of(meaning: &Meaning) -> Option<Grouping>
 /// Begins or ends a group (The TeXbook, chapter 24). `GroupsFull` comes exactly where 1000 groups
 /// are open, and `GroupEnd` exactly where no group of this kind is innermost. Refused, it leaves
 /// all as it was.
-#[tactic(auto, using(crate::proofs::Refusals::env_refuses, crate::proofs::Refusals::env_quiet, crate::proofs::Fitting::opening_fits, crate::proofs::Fitting::closing_fits))]
+#[tactic(auto, using(crate::proofs::Refusals::env_refuses, crate::proofs::Refusals::env_quiet, crate::proofs::Refusals::env_unshipped, crate::proofs::Fitting::opening_fits, crate::proofs::Fitting::closing_fits))]
 pub fn change_group(env: &mut Env, grouping: Grouping) -> Result<(), TurnFault>
     ensures exact { Agrees (λ _. env.new) read_cause result (group_changed env.old grouping) }
     ensures fit { (names : List Spelling) → AreFit names env.old → AreFit names env.new }
     ensures quiet { Uncounted read_cause result }
+    ensures unshipped { Uncounted sink_cause result }
 {
     match grouping {
         Grouping::Begin(kind) => Ok(env.open(kind)?),

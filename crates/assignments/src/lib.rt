@@ -6,6 +6,7 @@ mod assigning;
 mod calculations;
 mod command;
 mod grouping;
+mod laws;
 mod namings;
 mod reads;
 mod seeking;
@@ -21,4 +22,6 @@ pub use command::{
     meant,
 };
 pub use grouping::{Grouping, change_group, grouping_of};
+pub use laws::assignments_leave_less;
+pub use seeking::ignore_spaces;
 pub use variable::{Numbered, Target, Variable};

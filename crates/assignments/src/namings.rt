@@ -1,10 +1,11 @@
 //! Meanings are given to names.
 
-ghost use Rattle.std.specs.Prelude.{◌≡◌, ℕ, List, length, IfOk, OnOk};
-ghost use Rattle.ts_base.specs.Agreement.{Counts};
-ghost use Rattle.mouth.specs.Keeping.{AgreesAt, AreOpen, AreTold, IsReadable, IsToken};
+ghost use Rattle.std.specs.Prelude.{◌≡◌, ◌≤◌, ℕ, List, length, IfOk, OnOk};
+ghost use Rattle.ts_base.specs.Agreement.{Counts, Uncounted};
+ghost use Rattle.mouth.specs.Keeping.{reading, AgreesAt, AreOpen, AreTold, IsReadable, IsToken};
+ghost use Rattle.mouth.specs.Sizes.{size};
 ghost use Rattle.expander.specs.Holding.{AreFit, Goes};
-ghost use Rattle.control_faults.specs.TurnFaults.{read_cause};
+ghost use Rattle.control_faults.specs.TurnFaults.{read_cause, sink_cause};
 ghost use Rattle.assignments.specs.Worlds.{world_of};
 ghost use Rattle.tok_lists.specs.declared.spelling.Spelling.{Spelling};
 ghost use Rattle.env_groups.specs.Macros.{IsMeaning};
@@ -64,6 +65,9 @@ fn pass_equals<F: Files>(
     ensures readable { OnOk result (IsReadable gullet.new) }
     ensures fit { AreFit gullet.new.names env.new }
     ensures token { IfOk result (IsToken gullet.new.names) }
+    ensures size { OnOk result (size (reading gullet.new (F.state files.new))
+        ≤ size (reading gullet.old (F.state files.old))) }
+    ensures unshipped { Uncounted sink_cause result }
     ensures counted { Counts read_cause result (F.state files.old).faults
         (F.state files.new).faults }
 {
@@ -94,6 +98,9 @@ fn take_value<F: Files>(
     ensures readable { OnOk result (IsReadable gullet.new) }
     ensures fit { AreFit gullet.new.names env.new }
     ensures token { IfOk result (IsToken gullet.new.names) }
+    ensures size { OnOk result (size (reading gullet.new (F.state files.new))
+        ≤ size (reading gullet.old (F.state files.old))) }
+    ensures unshipped { Uncounted sink_cause result }
     ensures counted { Counts read_cause result (F.state files.old).faults
         (F.state files.new).faults }
 {
@@ -118,6 +125,9 @@ pub(crate) fn let_name<F: Files>(
     ensures goes { Goes gullet.old (F.state files.old) gullet.new (F.state files.new) }
     ensures readable { OnOk result (IsReadable gullet.new) }
     ensures fit { AreFit gullet.new.names env.new }
+    ensures size { OnOk result (size (reading gullet.new (F.state files.new))
+        ≤ size (reading gullet.old (F.state files.old))) }
+    ensures unshipped { Uncounted sink_cause result }
     ensures counted { Counts read_cause result (F.state files.old).faults
         (F.state files.new).faults }
 {
@@ -161,6 +171,9 @@ fn read_shorthand<F: Files>(
     ensures fit { AreFit gullet.new.names env.new }
     ensures sound { (fonts : ℕ) → IfOk result (IsMeaning fonts) }
     ensures holds { (names : List Spelling) → IfOk result (IsFit names) }
+    ensures size { OnOk result (size (reading gullet.new (F.state files.new))
+        ≤ size (reading gullet.old (F.state files.old))) }
+    ensures unshipped { Uncounted sink_cause result }
     ensures counted { Counts read_cause result (F.state files.old).faults
         (F.state files.new).faults }
 {
@@ -189,6 +202,9 @@ pub(crate) fn name_number<F: Files>(
     ensures goes { Goes gullet.old (F.state files.old) gullet.new (F.state files.new) }
     ensures readable { OnOk result (IsReadable gullet.new) }
     ensures fit { AreFit gullet.new.names env.new }
+    ensures size { OnOk result (size (reading gullet.new (F.state files.new))
+        ≤ size (reading gullet.old (F.state files.old))) }
+    ensures unshipped { Uncounted sink_cause result }
     ensures counted { Counts read_cause result (F.state files.old).faults
         (F.state files.new).faults }
 {
@@ -230,6 +246,9 @@ pub(crate) fn define<F: Files>(
     ensures goes { Goes gullet.old (F.state files.old) gullet.new (F.state files.new) }
     ensures readable { OnOk result (IsReadable gullet.new) }
     ensures fit { AreFit gullet.new.names env.new }
+    ensures size { OnOk result (size (reading gullet.new (F.state files.new))
+        ≤ size (reading gullet.old (F.state files.old))) }
+    ensures unshipped { Uncounted sink_cause result }
     ensures counted { Counts read_cause result (F.state files.old).faults
         (F.state files.new).faults }
 {

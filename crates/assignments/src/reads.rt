@@ -1,6 +1,6 @@
 //! What the gullet gives to a command.
 
-ghost use Rattle.std.specs.Prelude.{◌≡◌, ◌<◌, OnOk, IfOk};
+ghost use Rattle.std.specs.Prelude.{◌≡◌, ◌≤◌, ◌<◌, ◌+◌, OnOk, IfOk};
 ghost use Rattle.ts_base.specs.Agreement.{Counts, Uncounted};
 ghost use Rattle.ts_outside.specs.States.{FilesState};
 ghost use Rattle.env_groups.specs.Environments.{Nest};
@@ -8,21 +8,22 @@ ghost use Rattle.mouth.specs.Keeping.{reading, AgreesAt, AreOpen, AreTold, IsRea
 ghost use Rattle.mouth.specs.Sizes.{size};
 ghost use Rattle.raw_texts.specs.Holding.{AreTokens};
 ghost use Rattle.macros.specs.Definitions.{IsDefined};
+ghost use Rattle.scan_syntax.specs.Bounds.{IsWithinBounds};
 ghost use Rattle.expander.specs.Holding.{AreFit, Goes};
-ghost use Rattle.control_faults.specs.TurnFaults.{read_cause};
+ghost use Rattle.control_faults.specs.TurnFaults.{read_cause, sink_cause};
 ghost use Rattle.assignments.specs.Worlds.{world_of};
 ghost use Rattle.assignments.specs.Reads.{next_token, raw_token, scanned, macro_read, braces_read, put_back as the_put_back};
 
 use control_faults::TurnFault;
 use env_groups::{Env, MacroDef};
-use expander::Gullet;
+use expander::{Gullet, expansions_leave_less};
 use scan_syntax::{Value, Want};
 use std::alloc::Global;
 use tok_lists::{SharedTokens, Token};
 use ts_outside::Files;
 
 /// Takes the next unexpandable token.
-#[tactic(auto, unfolding(crate::specs::Reads::next_token), using(crate::proofs::Refusals::gullet_refuses))]
+#[tactic(auto, unfolding(crate::specs::Reads::next_token), using(crate::proofs::Refusals::gullet_refuses, crate::proofs::Refusals::gullet_unshipped))]
 pub(crate) fn take_next<F: Files>(
     gullet: &mut Gullet,
     files: &mut F,
@@ -40,6 +41,7 @@ pub(crate) fn take_next<F: Files>(
     ensures token { IfOk result (IsToken gullet.new.names) }
     ensures size { OnOk result (size (reading gullet.new (F.state files.new))
         < size (reading gullet.old (F.state files.old))) }
+    ensures unshipped { Uncounted sink_cause result }
     ensures counted { Counts read_cause result (F.state files.old).faults
         (F.state files.new).faults }
 {
@@ -47,7 +49,7 @@ pub(crate) fn take_next<F: Files>(
 }
 
 /// Takes the next token without expansion.
-#[tactic(auto, unfolding(crate::specs::Reads::raw_token), using(crate::proofs::Refusals::gullet_refuses))]
+#[tactic(auto, unfolding(crate::specs::Reads::raw_token), using(crate::proofs::Refusals::gullet_refuses, crate::proofs::Refusals::gullet_unshipped))]
 pub(crate) fn take_raw<F: Files>(
     gullet: &mut Gullet,
     files: &mut F,
@@ -65,6 +67,7 @@ pub(crate) fn take_raw<F: Files>(
     ensures token { IfOk result (IsToken gullet.new.names) }
     ensures size { OnOk result (size (reading gullet.new (F.state files.new))
         < size (reading gullet.old (F.state files.old))) }
+    ensures unshipped { Uncounted sink_cause result }
     ensures counted { Counts read_cause result (F.state files.old).faults
         (F.state files.new).faults }
 {
@@ -72,7 +75,7 @@ pub(crate) fn take_raw<F: Files>(
 }
 
 /// Scans.
-#[tactic(auto, unfolding(crate::specs::Reads::scanned), using(crate::proofs::Refusals::gullet_refuses))]
+#[tactic(auto, unfolding(crate::specs::Reads::scanned), using(crate::proofs::Refusals::gullet_refuses, crate::proofs::Refusals::gullet_unshipped))]
 pub(crate) fn scan<F: Files>(
     gullet: &mut Gullet,
     files: &mut F,
@@ -88,6 +91,10 @@ pub(crate) fn scan<F: Files>(
     ensures goes { Goes gullet.old (F.state files.old) gullet.new (F.state files.new) }
     ensures readable { OnOk result (IsReadable gullet.new) }
     ensures fit { AreFit gullet.new.names env.new }
+    ensures within { IfOk result IsWithinBounds }
+    ensures size { OnOk result (size (reading gullet.new (F.state files.new))
+        ≤ size (reading gullet.old (F.state files.old))) }
+    ensures unshipped { Uncounted sink_cause result }
     ensures counted { Counts read_cause result (F.state files.old).faults
         (F.state files.new).faults }
 {
@@ -95,7 +102,7 @@ pub(crate) fn scan<F: Files>(
 }
 
 /// Reads a macro's parameter text and body.
-#[tactic(auto, unfolding(crate::specs::Reads::macro_read), using(crate::proofs::Refusals::gullet_refuses))]
+#[tactic(auto, unfolding(crate::specs::Reads::macro_read), using(crate::proofs::Refusals::gullet_refuses, crate::proofs::Refusals::gullet_unshipped))]
 pub(crate) fn read_macro<F: Files>(
     gullet: &mut Gullet,
     files: &mut F,
@@ -113,6 +120,9 @@ pub(crate) fn read_macro<F: Files>(
     ensures readable { OnOk result (IsReadable gullet.new) }
     ensures fit { AreFit gullet.new.names env.new }
     ensures defined { IfOk result (IsDefined gullet.new.names) }
+    ensures size { OnOk result (size (reading gullet.new (F.state files.new))
+        < size (reading gullet.old (F.state files.old))) }
+    ensures unshipped { Uncounted sink_cause result }
     ensures counted { Counts read_cause result (F.state files.old).faults
         (F.state files.new).faults }
 {
@@ -120,7 +130,7 @@ pub(crate) fn read_macro<F: Files>(
 }
 
 /// Reads a list of tokens in braces.
-#[tactic(auto, unfolding(crate::specs::Reads::braces_read), using(crate::proofs::Refusals::gullet_refuses))]
+#[tactic(auto, unfolding(crate::specs::Reads::braces_read), using(crate::proofs::Refusals::gullet_refuses, crate::proofs::Refusals::gullet_unshipped))]
 pub(crate) fn read_braces<F: Files>(
     gullet: &mut Gullet,
     files: &mut F,
@@ -136,6 +146,9 @@ pub(crate) fn read_braces<F: Files>(
     ensures readable { OnOk result (IsReadable gullet.new) }
     ensures fit { AreFit gullet.new.names env.new }
     ensures tokens { IfOk result (AreTokens gullet.new.names) }
+    ensures size { OnOk result (size (reading gullet.new (F.state files.new))
+        < size (reading gullet.old (F.state files.old))) }
+    ensures unshipped { Uncounted sink_cause result }
     ensures counted { Counts read_cause result (F.state files.old).faults
         (F.state files.new).faults }
 {
@@ -143,7 +156,7 @@ pub(crate) fn read_braces<F: Files>(
 }
 
 /// Puts a token back, which is met again.
-#[tactic(auto, unfolding(crate::specs::Reads::put_back), using(crate::proofs::Refusals::gullet_refuses))]
+#[tactic(auto, unfolding(crate::specs::Reads::put_back), using(crate::proofs::Refusals::gullet_refuses, crate::proofs::Refusals::gullet_unshipped, crate::proofs::Leaving::push_size))]
 pub(crate) fn put_back(alloc: Global, gullet: &mut Gullet, token: Token) -> Result<(), TurnFault>
     requires token { IsToken gullet.old.names token }
     ensures exact { (state : FilesState) (nest : Nest)
@@ -151,8 +164,12 @@ pub(crate) fn put_back(alloc: Global, gullet: &mut Gullet, token: Token) -> Resu
         (the_put_back token (world_of gullet.old state nest)) }
     ensures files { KeepsFiles gullet.old gullet.new }
     ensures names { gullet.new.names ≡ gullet.old.names }
+    ensures size { OnOk result ((state : FilesState)
+        → size (reading gullet.new state) ≡ size (reading gullet.old state) + 1) }
     ensures quiet { Uncounted read_cause result }
+    ensures unshipped { Uncounted sink_cause result }
 {
+    expansions_leave_less();
     let list = SharedTokens::new(alloc, &[token])?;
     Ok(gullet.push(&list)?)
 }

@@ -1,21 +1,22 @@
 //! Tokens that are passed over before one that is sought.
 
-ghost use Rattle.std.specs.Prelude.{◌≡◌, ◌<◌, length, IfOk, OnOk};
-ghost use Rattle.ts_base.specs.Agreement.{Counts};
+ghost use Rattle.std.specs.Prelude.{◌≡◌, ◌≤◌, ◌<◌, length, IfOk, OnOk};
+ghost use Rattle.ts_base.specs.Agreement.{Counts, Uncounted};
 ghost use Rattle.mouth.specs.Keeping.{reading, AgreesAt, AreOpen, AreTold, IsReadable, IsToken};
 ghost use Rattle.mouth.specs.Sizes.{size};
 ghost use Rattle.expander.specs.Holding.{AreFit, Goes};
-ghost use Rattle.control_faults.specs.TurnFaults.{read_cause};
+ghost use Rattle.control_faults.specs.TurnFaults.{read_cause, sink_cause};
 ghost use Rattle.assignments.specs.Worlds.{world_of};
 ghost use Rattle.raw_texts.specs.Meanings.{means_category, is_blank as the_is_blank};
-ghost use Rattle.assignments.specs.Seeking.{with_prefix as the_with_prefix, passed_if as the_passed_if, passed as the_passed, taken, found, name, name_of as the_name_of, solid_token};
+ghost use Rattle.assignments.specs.Seeking.{with_prefix as the_with_prefix, passed_if as the_passed_if, passed as the_passed, taken, found, name, name_of as the_name_of, solid_token, spaces_ignored};
 
 use crate::command::{Command, Prefixes, command_of, meant};
-use crate::reads::{take_next, take_raw};
+use crate::reads::{put_back, take_next, take_raw};
 use control_faults::{FaultKind, TurnFault};
 use env_groups::{Env, Meaning, Prim};
 use expander::Gullet;
 use raw_texts::{is_space, meaning_of};
+use std::alloc::Global;
 use tok_lists::{NameNo, Token};
 use ts_outside::Files;
 
@@ -26,6 +27,8 @@ pub(crate) enum Sought {
     Name,
     /// The value of a `\let`: spaces are passed over, also by `\let`, without expansion.
     Value,
+    /// A token that is no space, also none by `\let`, with expansion.
+    NonSpace,
     /// A token that is neither a space nor `\relax`, with expansion.
     Solid,
     /// An assignment: spaces, `\relax` and prefixes are passed over, with expansion. These are the
@@ -76,6 +79,7 @@ fn passed(what: Sought, token: &Token, env: &Env) -> Option<Sought>
     match what {
         Sought::Name => passed_if(is_space(token), what),
         Sought::Value => passed_if(means_space(&meaning_of(token, env)), what),
+        Sought::NonSpace => passed_if(means_space(&meant(token, env)), what),
         Sought::Solid => passed_if(is_blank(&meant(token, env)), what),
         Sought::Assignment(prefixes) => {
             let meaning = meant(token, env);
@@ -106,12 +110,13 @@ fn take<F: Files>(
     ensures token { IfOk result (IsToken gullet.new.names) }
     ensures size { OnOk result (size (reading gullet.new (F.state files.new))
         < size (reading gullet.old (F.state files.old))) }
+    ensures unshipped { Uncounted sink_cause result }
     ensures counted { Counts read_cause result (F.state files.old).faults
         (F.state files.new).faults }
 {
     match what {
         Sought::Name | Sought::Value => take_raw(gullet, files, env),
-        Sought::Solid | Sought::Assignment(_) => take_next(gullet, files, env),
+        Sought::NonSpace | Sought::Solid | Sought::Assignment(_) => take_next(gullet, files, env),
     }
 }
 
@@ -134,6 +139,7 @@ pub(crate) fn seek<F: Files>(
     ensures token { IfOk result (λ found. IsToken gullet.new.names found.1) }
     ensures size { OnOk result (size (reading gullet.new (F.state files.new))
         < size (reading gullet.old (F.state files.old))) }
+    ensures unshipped { Uncounted sink_cause result }
     ensures counted { Counts read_cause result (F.state files.old).faults
         (F.state files.new).faults }
 {
@@ -176,6 +182,7 @@ pub(crate) fn read_name<F: Files>(
     ensures held { IfOk result (λ number. number.0 < length gullet.new.names) }
     ensures size { OnOk result (size (reading gullet.new (F.state files.new))
         < size (reading gullet.old (F.state files.old))) }
+    ensures unshipped { Uncounted sink_cause result }
     ensures counted { Counts read_cause result (F.state files.old).faults
         (F.state files.new).faults }
 {
@@ -202,9 +209,38 @@ pub(crate) fn take_solid<F: Files>(
     ensures token { IfOk result (IsToken gullet.new.names) }
     ensures size { OnOk result (size (reading gullet.new (F.state files.new))
         < size (reading gullet.old (F.state files.old))) }
+    ensures unshipped { Uncounted sink_cause result }
     ensures counted { Counts read_cause result (F.state files.old).faults
         (F.state files.new).faults }
 {
     let (_, token) = seek(gullet, files, env, Sought::Solid)?;
     Ok(token)
+}
+
+/// Passes over spaces, also those by `\let`, with expansion, and puts the first other token back:
+/// `\ignorespaces` (The TeXbook, chapter 24; TeX: The Program, section 1045).
+#[tactic(auto, unfolding(crate::specs::Seeking::spaces_ignored))]
+pub fn ignore_spaces<F: Files>(
+    alloc: Global,
+    gullet: &mut Gullet,
+    files: &mut F,
+    env: &mut Env,
+) -> Result<(), TurnFault>
+    requires opened { AreOpen gullet.old (F.state files.old) }
+    requires readable { IsReadable gullet.old }
+    requires fit { AreFit gullet.old.names env.old }
+    ensures exact { AreTold gullet.old (F.state files.old)
+        → AgreesAt (λ _. world_of gullet.new (F.state files.new) env.new) read_cause
+        gullet.new result (spaces_ignored (world_of gullet.old (F.state files.old) env.old)) }
+    ensures goes { Goes gullet.old (F.state files.old) gullet.new (F.state files.new) }
+    ensures readable { OnOk result (IsReadable gullet.new) }
+    ensures fit { AreFit gullet.new.names env.new }
+    ensures size { OnOk result (size (reading gullet.new (F.state files.new))
+        ≤ size (reading gullet.old (F.state files.old))) }
+    ensures unshipped { Uncounted sink_cause result }
+    ensures counted { Counts read_cause result (F.state files.old).faults
+        (F.state files.new).faults }
+{
+    let (_, token) = seek(gullet, files, env, Sought::NonSpace)?;
+    put_back(alloc, gullet, token)
 }

@@ -1,10 +1,11 @@
 //! Registers, parameters and codes are set.
 
-ghost use Rattle.std.specs.Prelude.{◌≡◌, List, OnOk};
+ghost use Rattle.std.specs.Prelude.{◌≡◌, ◌≤◌, List, OnOk};
 ghost use Rattle.ts_base.specs.Agreement.{Agrees, Counts, Uncounted};
-ghost use Rattle.mouth.specs.Keeping.{AgreesAt, AreOpen, AreTold, IsReadable};
+ghost use Rattle.mouth.specs.Keeping.{reading, AgreesAt, AreOpen, AreTold, IsReadable};
+ghost use Rattle.mouth.specs.Sizes.{size};
 ghost use Rattle.expander.specs.Holding.{AreFit, Goes};
-ghost use Rattle.control_faults.specs.TurnFaults.{read_cause};
+ghost use Rattle.control_faults.specs.TurnFaults.{read_cause, sink_cause};
 ghost use Rattle.assignments.specs.Worlds.{world_of};
 ghost use Rattle.tok_lists.specs.declared.spelling.Spelling.{Spelling};
 ghost use Rattle.env_groups.specs.declared.key.IntKey.TheVariants.{Param};
@@ -38,6 +39,9 @@ pub(crate) fn read_variable<F: Files>(
     ensures goes { Goes gullet.old (F.state files.old) gullet.new (F.state files.new) }
     ensures readable { OnOk result (IsReadable gullet.new) }
     ensures fit { AreFit gullet.new.names env.new }
+    ensures size { OnOk result (size (reading gullet.new (F.state files.new))
+        ≤ size (reading gullet.old (F.state files.old))) }
+    ensures unshipped { Uncounted sink_cause result }
     ensures counted { Counts read_cause result (F.state files.old).faults
         (F.state files.new).faults }
 {
@@ -70,6 +74,9 @@ fn set_value<F: Files>(
     ensures goes { Goes gullet.old (F.state files.old) gullet.new (F.state files.new) }
     ensures readable { OnOk result (IsReadable gullet.new) }
     ensures fit { AreFit gullet.new.names env.new }
+    ensures size { OnOk result (size (reading gullet.new (F.state files.new))
+        ≤ size (reading gullet.old (F.state files.old))) }
+    ensures unshipped { Uncounted sink_cause result }
     ensures counted { Counts read_cause result (F.state files.old).faults
         (F.state files.new).faults }
 {
@@ -118,6 +125,9 @@ pub(crate) fn set_target<F: Files>(
     ensures goes { Goes gullet.old (F.state files.old) gullet.new (F.state files.new) }
     ensures readable { OnOk result (IsReadable gullet.new) }
     ensures fit { AreFit gullet.new.names env.new }
+    ensures size { OnOk result (size (reading gullet.new (F.state files.new))
+        ≤ size (reading gullet.old (F.state files.old))) }
+    ensures unshipped { Uncounted sink_cause result }
     ensures counted { Counts read_cause result (F.state files.old).faults
         (F.state files.new).faults }
 {
@@ -143,6 +153,7 @@ pub(crate) fn set_switch(
         (int_stored env.old (Param param) (the_switch_number on) global) }
     ensures fit { (names : List Spelling) → AreFit names env.old → AreFit names env.new }
     ensures quiet { Uncounted read_cause result }
+    ensures unshipped { Uncounted sink_cause result }
 {
     store_int(env, IntKey::Param(param), switch_number(on), global)
 }

@@ -9,7 +9,7 @@ ghost use Rattle.env_groups.specs.Bounds.{IsInt, HasSetDimens};
 ghost use Rattle.env_groups.specs.Macros.{IsMeaning};
 ghost use Rattle.env_groups.specs.Environments.{meaning_set};
 ghost use Rattle.expander.specs.Holding.{AreFit, IsFit, IsPlainList};
-ghost use Rattle.control_faults.specs.TurnFaults.{read_cause};
+ghost use Rattle.control_faults.specs.TurnFaults.{read_cause, sink_cause};
 ghost use Rattle.assignments.specs.Settings.{int_stored, dim_stored, glue_stored, toks_stored, code_stored};
 
 use control_faults::TurnFault;
@@ -18,7 +18,7 @@ use tok_lists::{NameNo, SharedTokens};
 use ts_geometry::{Glue, Sp};
 
 /// Stores an integer.
-#[tactic(auto, using(crate::proofs::Refusals::env_refuses, crate::proofs::Refusals::env_quiet, crate::proofs::Fitting::int_fits))]
+#[tactic(auto, using(crate::proofs::Refusals::env_refuses, crate::proofs::Refusals::env_quiet, crate::proofs::Refusals::env_unshipped, crate::proofs::Fitting::int_fits))]
 pub(crate) fn store_int(
     env: &mut Env,
     key: IntKey,
@@ -31,12 +31,13 @@ pub(crate) fn store_int(
     ensures fit { (names : List Spelling) → AreFit names env.old
         → AreFit names env.new }
     ensures quiet { Uncounted read_cause result }
+    ensures unshipped { Uncounted sink_cause result }
 {
     Ok(env.set_int(key, value, global)?)
 }
 
 /// Stores a dimension, in scaled points.
-#[tactic(auto, using(crate::proofs::Refusals::env_refuses, crate::proofs::Refusals::env_quiet, crate::proofs::Fitting::dim_fits))]
+#[tactic(auto, using(crate::proofs::Refusals::env_refuses, crate::proofs::Refusals::env_quiet, crate::proofs::Refusals::env_unshipped, crate::proofs::Fitting::dim_fits))]
 pub(crate) fn store_dim(
     env: &mut Env,
     key: DimKey,
@@ -49,12 +50,13 @@ pub(crate) fn store_dim(
     ensures fit { (names : List Spelling) → AreFit names env.old
         → AreFit names env.new }
     ensures quiet { Uncounted read_cause result }
+    ensures unshipped { Uncounted sink_cause result }
 {
     Ok(env.set_dim(key, value, global)?)
 }
 
 /// Stores glue, in scaled points.
-#[tactic(auto, using(crate::proofs::Refusals::env_refuses, crate::proofs::Refusals::env_quiet, crate::proofs::Fitting::glue_fits))]
+#[tactic(auto, using(crate::proofs::Refusals::env_refuses, crate::proofs::Refusals::env_quiet, crate::proofs::Refusals::env_unshipped, crate::proofs::Fitting::glue_fits))]
 pub(crate) fn store_glue(
     env: &mut Env,
     key: GlueKey,
@@ -67,12 +69,13 @@ pub(crate) fn store_glue(
     ensures fit { (names : List Spelling) → AreFit names env.old
         → AreFit names env.new }
     ensures quiet { Uncounted read_cause result }
+    ensures unshipped { Uncounted sink_cause result }
 {
     Ok(env.set_glue(key, value, global)?)
 }
 
 /// Stores a list of tokens.
-#[tactic(auto, using(crate::proofs::Refusals::env_refuses, crate::proofs::Refusals::env_quiet, crate::proofs::Fitting::toks_fits))]
+#[tactic(auto, using(crate::proofs::Refusals::env_refuses, crate::proofs::Refusals::env_quiet, crate::proofs::Refusals::env_unshipped, crate::proofs::Fitting::toks_fits))]
 pub(crate) fn store_toks(
     env: &mut Env,
     key: ToksKey,
@@ -85,12 +88,13 @@ pub(crate) fn store_toks(
     ensures fit { (names : List Spelling) → IsPlainList names value → AreFit names env.old
         → AreFit names env.new }
     ensures quiet { Uncounted read_cause result }
+    ensures unshipped { Uncounted sink_cause result }
 {
     Ok(env.set_toks(key, value, global)?)
 }
 
 /// Stores a code.
-#[tactic(auto, using(crate::proofs::Refusals::env_refuses, crate::proofs::Refusals::env_quiet, crate::proofs::Fitting::code_fits))]
+#[tactic(auto, using(crate::proofs::Refusals::env_refuses, crate::proofs::Refusals::env_quiet, crate::proofs::Refusals::env_unshipped, crate::proofs::Fitting::code_fits))]
 pub(crate) fn store_code(
     env: &mut Env,
     key: CodeKey,
@@ -102,12 +106,13 @@ pub(crate) fn store_code(
     ensures fit { (names : List Spelling) → AreFit names env.old
         → AreFit names env.new }
     ensures quiet { Uncounted read_cause result }
+    ensures unshipped { Uncounted sink_cause result }
 {
     Ok(env.set_code(key, value, global)?)
 }
 
 /// Stores the meaning of a name.
-#[tactic(auto, using(crate::proofs::Refusals::set_refuses, crate::proofs::Refusals::env_quiet, crate::proofs::Fitting::meaning_fits))]
+#[tactic(auto, using(crate::proofs::Refusals::set_refuses, crate::proofs::Refusals::env_quiet, crate::proofs::Refusals::env_unshipped, crate::proofs::Fitting::meaning_fits))]
 pub(crate) fn store_meaning(
     env: &mut Env,
     name: NameNo,
@@ -120,6 +125,7 @@ pub(crate) fn store_meaning(
     ensures fit { (names : List Spelling) → IsFit names value → AreFit names env.old
         → AreFit names env.new }
     ensures quiet { Uncounted read_cause result }
+    ensures unshipped { Uncounted sink_cause result }
 {
     Ok(env.set_meaning(name, value, global)?)
 }

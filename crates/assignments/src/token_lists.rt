@@ -1,10 +1,11 @@
 //! Token lists that are read to be set.
 
-ghost use Rattle.std.specs.Prelude.{◌≡◌, List, IfOk, OnOk};
-ghost use Rattle.ts_base.specs.Agreement.{Counts};
-ghost use Rattle.mouth.specs.Keeping.{AgreesAt, AreOpen, AreTold, IsReadable, IsToken};
+ghost use Rattle.std.specs.Prelude.{◌≡◌, ◌≤◌, List, IfOk, OnOk};
+ghost use Rattle.ts_base.specs.Agreement.{Counts, Uncounted};
+ghost use Rattle.mouth.specs.Keeping.{reading, AgreesAt, AreOpen, AreTold, IsReadable, IsToken};
+ghost use Rattle.mouth.specs.Sizes.{size};
 ghost use Rattle.expander.specs.Holding.{AreFit, Goes};
-ghost use Rattle.control_faults.specs.TurnFaults.{read_cause};
+ghost use Rattle.control_faults.specs.TurnFaults.{read_cause, sink_cause};
 ghost use Rattle.assignments.specs.Worlds.{world_of};
 ghost use Rattle.ts_base.specs.Agreement.{with_fault};
 ghost use Rattle.tok_lists.specs.declared.spelling.Spelling.{Spelling};
@@ -32,11 +33,12 @@ fn begins_group(meaning: &Meaning) -> bool
 }
 
 // The list of a register or of `\output`.
-#[tactic(auto, using(crate::proofs::Fitting::toks_fit))]
+#[tactic(auto, using(crate::proofs::Fitting::toks_fit, crate::proofs::Refusals::env_unshipped))]
 fn held_list(env: &Env, key: ToksKey) -> Result<SharedTokens, TurnFault>
     ensures value { result ≡ with_fault of_env (toks_at env.now key) }
     ensures plain { (names : List Spelling) → AreFit names env.now
         → IfOk result (IsPlainList names) }
+    ensures unshipped { Uncounted sink_cause result }
 {
     Ok(env.get_toks(key)?)
 }
@@ -60,6 +62,9 @@ fn copy_list<F: Files>(
     ensures readable { OnOk result (IsReadable gullet.new) }
     ensures fit { AreFit gullet.new.names env.new }
     ensures plain { IfOk result (IsPlainList gullet.new.names) }
+    ensures size { OnOk result (size (reading gullet.new (F.state files.new))
+        ≤ size (reading gullet.old (F.state files.old))) }
+    ensures unshipped { Uncounted sink_cause result }
     ensures counted { Counts read_cause result (F.state files.old).faults
         (F.state files.new).faults }
 {
@@ -91,6 +96,9 @@ fn list_after<F: Files>(
     ensures readable { OnOk result (IsReadable gullet.new) }
     ensures fit { AreFit gullet.new.names env.new }
     ensures plain { IfOk result (IsPlainList gullet.new.names) }
+    ensures size { OnOk result (size (reading gullet.new (F.state files.new))
+        ≤ size (reading gullet.old (F.state files.old))) }
+    ensures unshipped { Uncounted sink_cause result }
     ensures counted { Counts read_cause result (F.state files.old).faults
         (F.state files.new).faults }
 {
@@ -121,6 +129,9 @@ pub(crate) fn read_list<F: Files>(
     ensures readable { OnOk result (IsReadable gullet.new) }
     ensures fit { AreFit gullet.new.names env.new }
     ensures plain { IfOk result (IsPlainList gullet.new.names) }
+    ensures size { OnOk result (size (reading gullet.new (F.state files.new))
+        ≤ size (reading gullet.old (F.state files.old))) }
+    ensures unshipped { Uncounted sink_cause result }
     ensures counted { Counts read_cause result (F.state files.old).faults
         (F.state files.new).faults }
 {

@@ -1,12 +1,14 @@
 //! Values that commands read, each with its range.
 
-ghost use Rattle.std.specs.Prelude.{◌≡◌, IfOk, OnOk};
-ghost use Rattle.ts_base.specs.Agreement.{Counts};
-ghost use Rattle.mouth.specs.Keeping.{AgreesAt, AreOpen, AreTold, IsReadable};
+ghost use Rattle.std.specs.Prelude.{◌≡◌, ◌≤◌, IfOk, OnOk};
+ghost use Rattle.ts_base.specs.Agreement.{Counts, Uncounted};
+ghost use Rattle.mouth.specs.Keeping.{reading, AgreesAt, AreOpen, AreTold, IsReadable};
+ghost use Rattle.mouth.specs.Sizes.{size};
 ghost use Rattle.expander.specs.Holding.{AreFit, Goes};
-ghost use Rattle.control_faults.specs.TurnFaults.{read_cause};
+ghost use Rattle.control_faults.specs.TurnFaults.{read_cause, sink_cause};
 ghost use Rattle.assignments.specs.Worlds.{world_of};
 ghost use Rattle.box_tree.specs.Bounds.{IsDimen};
+ghost use Rattle.scan_syntax.specs.Bounds.{IsWithinBounds};
 ghost use Rattle.env_groups.specs.Bounds.{IsInt, HasSetDimens};
 ghost use Rattle.assignments.specs.Values.{whole_integer as the_whole_integer, whole_dimen as the_whole_dimen, whole_glue as the_whole_glue, is_dimen as the_is_dimen, integer, dimension, glue, equals, keyword, register};
 
@@ -19,9 +21,6 @@ use scan_syntax::{Value, Want, Word};
 use ts_geometry::{Glue, MAX_DIMEN, Sp};
 use ts_outside::Files;
 
-/// The greatest integer (The TeXbook, chapter 24).
-const MAX_INT: i64 = 2_147_483_647;
-
 fn is_dimen(d: Sp) -> bool
     ensures { result ≡ the_is_dimen d }
 {
@@ -30,12 +29,12 @@ fn is_dimen(d: Sp) -> bool
 
 // The integer that a scan found.
 fn whole_integer(value: &Value) -> Result<i64, FaultKind>
+    requires { IsWithinBounds value.now }
     ensures value { result ≡ the_whole_integer value.now }
     ensures within { IfOk result IsInt }
 {
     match value {
-        Value::Integer(n) if -MAX_INT <= *n && *n <= MAX_INT => Ok(*n),
-        Value::Integer(_) => Err(FaultKind::NumberRange),
+        Value::Integer(n) => Ok(*n),
         _ => Err(FaultKind::NoNumber),
     }
 }
@@ -54,12 +53,12 @@ fn whole_dimen(value: &Value) -> Result<Sp, FaultKind>
 
 // The glue that a scan found, in scaled points.
 fn whole_glue(value: &Value) -> Result<Glue, FaultKind>
+    requires { IsWithinBounds value.now }
     ensures value { result ≡ the_whole_glue value.now }
     ensures within { IfOk result HasSetDimens }
 {
     match value {
-        Value::Glue(g) if is_dimen(g.width) && is_dimen(g.stretch) && is_dimen(g.shrink) => Ok(*g),
-        Value::Glue(_) => Err(FaultKind::DimenRange),
+        Value::Glue(g) => Ok(*g),
         _ => Err(FaultKind::NoNumber),
     }
 }
@@ -81,6 +80,9 @@ pub(crate) fn read_integer<F: Files>(
     ensures readable { OnOk result (IsReadable gullet.new) }
     ensures fit { AreFit gullet.new.names env.new }
     ensures within { IfOk result IsInt }
+    ensures size { OnOk result (size (reading gullet.new (F.state files.new))
+        ≤ size (reading gullet.old (F.state files.old))) }
+    ensures unshipped { Uncounted sink_cause result }
     ensures counted { Counts read_cause result (F.state files.old).faults
         (F.state files.new).faults }
 {
@@ -105,6 +107,9 @@ pub(crate) fn read_dimension<F: Files>(
     ensures readable { OnOk result (IsReadable gullet.new) }
     ensures fit { AreFit gullet.new.names env.new }
     ensures within { IfOk result IsDimen }
+    ensures size { OnOk result (size (reading gullet.new (F.state files.new))
+        ≤ size (reading gullet.old (F.state files.old))) }
+    ensures unshipped { Uncounted sink_cause result }
     ensures counted { Counts read_cause result (F.state files.old).faults
         (F.state files.new).faults }
 {
@@ -129,6 +134,9 @@ pub(crate) fn read_glue<F: Files>(
     ensures readable { OnOk result (IsReadable gullet.new) }
     ensures fit { AreFit gullet.new.names env.new }
     ensures within { IfOk result HasSetDimens }
+    ensures size { OnOk result (size (reading gullet.new (F.state files.new))
+        ≤ size (reading gullet.old (F.state files.old))) }
+    ensures unshipped { Uncounted sink_cause result }
     ensures counted { Counts read_cause result (F.state files.old).faults
         (F.state files.new).faults }
 {
@@ -152,6 +160,9 @@ pub(crate) fn read_equals<F: Files>(
     ensures goes { Goes gullet.old (F.state files.old) gullet.new (F.state files.new) }
     ensures readable { OnOk result (IsReadable gullet.new) }
     ensures fit { AreFit gullet.new.names env.new }
+    ensures size { OnOk result (size (reading gullet.new (F.state files.new))
+        ≤ size (reading gullet.old (F.state files.old))) }
+    ensures unshipped { Uncounted sink_cause result }
     ensures counted { Counts read_cause result (F.state files.old).faults
         (F.state files.new).faults }
 {
@@ -176,6 +187,9 @@ pub(crate) fn read_keyword<F: Files>(
     ensures goes { Goes gullet.old (F.state files.old) gullet.new (F.state files.new) }
     ensures readable { OnOk result (IsReadable gullet.new) }
     ensures fit { AreFit gullet.new.names env.new }
+    ensures size { OnOk result (size (reading gullet.new (F.state files.new))
+        ≤ size (reading gullet.old (F.state files.old))) }
+    ensures unshipped { Uncounted sink_cause result }
     ensures counted { Counts read_cause result (F.state files.old).faults
         (F.state files.new).faults }
 {
@@ -199,6 +213,9 @@ pub(crate) fn read_register<F: Files>(
     ensures goes { Goes gullet.old (F.state files.old) gullet.new (F.state files.new) }
     ensures readable { OnOk result (IsReadable gullet.new) }
     ensures fit { AreFit gullet.new.names env.new }
+    ensures size { OnOk result (size (reading gullet.new (F.state files.new))
+        ≤ size (reading gullet.old (F.state files.old))) }
+    ensures unshipped { Uncounted sink_cause result }
     ensures counted { Counts read_cause result (F.state files.old).faults
         (F.state files.new).faults }
 {
