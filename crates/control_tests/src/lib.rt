@@ -3,4 +3,6 @@
 #![tactic(auto)]
 
 #[cfg(test)]
+mod assigned;
+#[cfg(test)]
 mod runs;

@@ -10,7 +10,7 @@ use ts_outside::{FileName, MemFile, MemFiles, MemSink};
 
 /// How a source ends: its fault, or its spent budget, with the line.
 #[derive(Clone, Copy, Debug, PartialEq, Eq)]
-enum Met {
+pub(crate) enum Met {
     End,
     Fault(FaultKind, u32),
     Budget(u32),
@@ -130,26 +130,19 @@ fn how_it_ended(ending: Ending) -> Met {
     }
 }
 
-/// Runs a source that is read byte by byte.
-fn run(alloc: Global, row: &Row) -> Result<Met, NoMemory> {
+/// Runs a source that is read byte by byte, with so many units; one call on the files fails.
+pub(crate) fn run(alloc: Global, source: &[u8], budget: u32, fails: u64) -> Result<Met, NoMemory> {
     let name = FileName::new(alloc, b"a.tex").or(Err(NoMemory))?;
     let file = MemFile {
         name: name.same_copy(),
-        bytes: row.source.to_vec(alloc)?,
+        bytes: source.to_vec(alloc)?,
     };
     let cuts = vec![in alloc; 1]?;
-    let fails = vec![in alloc; row.fails]?;
+    let fails = vec![in alloc; fails]?;
     let mut files = MemFiles::new(alloc, vec![in alloc; file]?, cuts, fails);
     let mut sink = MemSink::new(alloc, Vec::new(alloc), Vec::new(alloc));
     let mut shipper = PageShipper::new(alloc, &mut sink);
-    let ending = Stomach::run(
-        alloc,
-        &mut files,
-        &mut shipper,
-        &name,
-        Coding::Euc,
-        row.budget,
-    );
+    let ending = Stomach::run(alloc, &mut files, &mut shipper, &name, Coding::Euc, budget);
     Ok(how_it_ended(ending))
 }
 
@@ -157,7 +150,7 @@ fn run(alloc: Global, row: &Row) -> Result<Met, NoMemory> {
 fn sources_end_as_they_mean(rt: HostRuntime) -> Result<(), Fail> {
     let alloc = rt.alloc();
     for row in &ROWS {
-        let met = run(alloc, row).or(Err("memory"))?;
+        let met = run(alloc, row.source, row.budget, row.fails).or(Err("memory"))?;
         assert_eq!(rt; met, row.met);
     }
     Ok(())

@@ -15,6 +15,9 @@ use Rattle.control_faults.specs.declared.turn_fault.TurnFault.{TurnFault}
 use Rattle.control_faults.specs.TurnFaults.{of_gullet, turn_stop}
 use Rattle.control_faults.specs.declared.kind.FaultKind.TheVariants as kinds
 use Rattle.main_control.specs.declared.ending.Ending.TheVariants as endings
+use Rattle.assignments.specs.declared.command.Command.{Command as AssignCommand}
+use Rattle.assignments.specs.Assignments.{assigned}
+use Rattle.assignments.specs.Seeking.{spaces_ignored}
 use Rattle.main_control.specs.declared.command.Command.{Command}
 use Rattle.main_control.specs.declared.command.Command.TheVariants as commands
 use Rattle.main_control.specs.Commands.{meaning_of, command_of}
@@ -44,6 +47,13 @@ ok_more (Err e) P Q given so = tt
 abbrev pub NextFalls : Type 0
 NextFalls = (v : Text) → IfOk (run Next v) (λ t. size t.1.at < size v.at)
 
+-- what assignments promise
+abbrev pub AssignedFalls : Type 0
+AssignedFalls = (command : AssignCommand) (v : Text) → IfOk (assigned command v) (λ u. size u.at ≤ size v.at)
+
+abbrev pub IgnoredFalls : Type 0
+IgnoredFalls = (v : Text) → IfOk (spaces_ignored v) (λ u. size u.at ≤ size v.at)
+
 taken_falls : NextFalls → (w : Text) → IfOk (token_taken w) (λ t. size t.1.at < size w.at)
 taken_falls falls w = fault_ok (turn_stop of_gullet) (with_fault (stop_as of_step_fault) (run Next w)) _ (fault_ok (stop_as of_step_fault) (run Next w) _ (falls w))
 
@@ -69,28 +79,30 @@ ended_falls : (b : Bool) (n : ℕ) (boxes : List Asked) (e : Stopped) (stop : St
 ended_falls true n boxes e stop = tt
 ended_falls false n boxes e stop = tt
 
-acted_falls : NextFalls → (command : Command) (s : Scene) (boxes : List Asked) → IfOk (acted command s boxes) (WithIn (size s.text.at))
+acted_falls : AssignedFalls → IgnoredFalls → (command : Command) (s : Scene) (boxes : List Asked) → IfOk (acted command s boxes) (WithIn (size s.text.at))
 unfolding acted
-acted_falls falls commands.Nothing s boxes = omega arith
-acted_falls falls (commands.Open kind) s boxes = calm_falls s boxes (group_begun kind s.text) (group_falls s.text (group_opened s.text.nest kind))
-acted_falls falls (commands.Close kind) s boxes = calm_falls s boxes (group_ended kind s.text) (group_falls s.text (group_closed s.text.nest kind))
-acted_falls falls (commands.Refuse kind) s boxes = tt
-acted_falls falls commands.End s boxes = ended_falls (is_idle s.text.nest) (size s.text.at) boxes (stopped endings.Ended boxes) (fault_in kinds.NotBuilt s.text.at)
+acted_falls assigns ignores commands.Nothing s boxes = omega arith
+acted_falls assigns ignores (commands.Assign command) s boxes = calm_falls s boxes (assigned command s.text) (assigns command s.text)
+acted_falls assigns ignores (commands.Open kind) s boxes = calm_falls s boxes (group_begun kind s.text) (group_falls s.text (group_opened s.text.nest kind))
+acted_falls assigns ignores (commands.Close kind) s boxes = calm_falls s boxes (group_ended kind s.text) (group_falls s.text (group_closed s.text.nest kind))
+acted_falls assigns ignores (commands.Refuse kind) s boxes = tt
+acted_falls assigns ignores commands.IgnoreSpaces s boxes = calm_falls s boxes (spaces_ignored s.text) (ignores s.text)
+acted_falls assigns ignores commands.End s boxes = ended_falls (is_idle s.text.nest) (size s.text.at) boxes (stopped endings.Ended boxes) (fault_in kinds.NotBuilt s.text.at)
 
-next_falls : NextFalls → (s : Scene) (boxes : List Asked) (n : ℕ) (r : Result (Token × Text) (Stop TurnFault)) → IfOk r (λ t. size t.1.at < n) → IfOk (on_next s boxes r) (λ w. rank w < n)
-next_falls falls s boxes n (Ok t) took =
+next_falls : AssignedFalls → IgnoredFalls → (s : Scene) (boxes : List Asked) (n : ℕ) (r : Result (Token × Text) (Stop TurnFault)) → IfOk r (λ t. size t.1.at < n) → IfOk (on_next s boxes r) (λ w. rank w < n)
+next_falls assigns ignores s boxes n (Ok t) took =
     let command = command_of (meaning_of t.1.nest t.0) in
     let after = with_text s t.1 in
-    ok_more (acted command after boxes) (WithIn (size after.text.at)) (λ w. rank w < n) (acted_falls falls command after boxes) (λ w h. omega arith)
-next_falls falls s boxes n (Err stop) took = tt
+    ok_more (acted command after boxes) (WithIn (size after.text.at)) (λ w. rank w < n) (acted_falls assigns ignores command after boxes) (λ w h. omega arith)
+next_falls assigns ignores s boxes n (Err stop) took = tt
 
-pub turn_lowers : NextFalls → (w next : World) → turn_of w ≡ Ok next → rank next < rank w
+pub turn_lowers : NextFalls → AssignedFalls → IgnoredFalls → (w next : World) → turn_of w ≡ Ok next → rank next < rank w
 unfolding turn_of
-turn_lowers falls w next is = rw is at (next_falls falls w.scene w.boxes (rank w) (token_taken w.scene.text) (taken_falls falls w.scene.text))
+turn_lowers falls assigns ignores w next is = rw is at (next_falls assigns ignores w.scene w.boxes (rank w) (token_taken w.scene.text) (taken_falls falls w.scene.text))
 
-pub run_turns : NextFalls → (w : World) → run_of w ≡ after_turn run_of (turn_of w)
-run_turns falls w = by_turn (turn_of w) refl
+pub run_turns : NextFalls → AssignedFalls → IgnoredFalls → (w : World) → run_of w ≡ after_turn run_of (turn_of w)
+run_turns falls assigns ignores w = by_turn (turn_of w) refl
   where
     by_turn : (given : Step) → turn_of w ≡ given → run_of w ≡ after_turn run_of given
-    by_turn (Ok next) is = run_more w next is (turn_lowers falls w next is)
+    by_turn (Ok next) is = run_more w next is (turn_lowers falls assigns ignores w next is)
     by_turn (Err s) is = run_last w s is

@@ -6,6 +6,8 @@ use Rattle.expander.specs.Worlds.{World as Text}
 use Rattle.dvi_writer.specs.Reading.{Asked}
 use Rattle.shipping.specs.Boxes.{BeginsWith}
 use Rattle.control_faults.specs.declared.turn_fault.TurnFault.{TurnFault}
+use Rattle.assignments.specs.Assignments.{assigned}
+use Rattle.assignments.specs.Seeking.{spaces_ignored}
 use Rattle.main_control.specs.declared.command.Command.{Command}
 use Rattle.main_control.specs.declared.command.Command.TheVariants as commands
 use Rattle.control_faults.specs.declared.kind.FaultKind.TheVariants as kinds
@@ -33,9 +35,11 @@ ended_grows false ending boxes quiet = calm_grows boxes quiet
 pub acted_grows : (command : Command) (s : Scene) (boxes : List Asked) → BeginsWith (boxes_of (acted command s boxes)) boxes
 unfolding acted
 acted_grows commands.Nothing s boxes = begins_same boxes
+acted_grows (commands.Assign command) s boxes = calm_grows boxes (in_scene s (assigned command s.text))
 acted_grows (commands.Open kind) s boxes = calm_grows boxes (in_scene s (group_begun kind s.text))
 acted_grows (commands.Close kind) s boxes = calm_grows boxes (in_scene s (group_ended kind s.text))
 acted_grows (commands.Refuse kind) s boxes = begins_same boxes
+acted_grows commands.IgnoreSpaces s boxes = calm_grows boxes (in_scene s (spaces_ignored s.text))
 acted_grows commands.End s boxes = ended_grows (is_idle s.text.nest) endings.Ended boxes (Err (fault_in kinds.NotBuilt s.text.at))
 
 pub next_grows : (s : Scene) (boxes : List Asked) (r : Result (Token × Text) (Stop TurnFault)) → BeginsWith (boxes_of (on_next s boxes r)) boxes

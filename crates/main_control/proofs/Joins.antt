@@ -15,6 +15,9 @@ use Rattle.control_faults.specs.declared.turn_fault.TurnFault.{TurnFault}
 use Rattle.control_faults.specs.declared.turn_fault.TurnFault.TheVariants as faults
 use Rattle.control_faults.specs.TurnFaults.{read_cause, sink_cause, of_gullet}
 use Rattle.env_groups.specs.declared.group.GroupKind.{GroupKind}
+use Rattle.assignments.specs.declared.command.Command.{Command as AssignCommand}
+use Rattle.assignments.specs.Assignments.{assigned}
+use Rattle.assignments.specs.Seeking.{spaces_ignored}
 use Rattle.main_control.specs.declared.command.Command.{Command}
 use Rattle.main_control.specs.declared.command.Command.TheVariants as commands
 use Rattle.main_control.specs.declared.ending.Ending.{Ending}
@@ -111,6 +114,14 @@ turn_next s boxes token w is = rw is refl
 pub turn_taken : (s s' : Scene) (boxes : List Asked) (token : Token) (command : Command) → token_taken s.text ≡ Ok (token, s'.text) → s'.fonts ≡ s.fonts → command ≡ command_of (meaning_of s'.text.nest token)
     → turn_of (world s boxes) ≡ acted command s' boxes
 turn_taken s s' boxes token command is fonts does = turn_next s boxes token s'.text is ∙ rw (does, ← fonts) refl
+
+pub acted_assign : (command : AssignCommand) (s : Scene) (boxes : List Asked) → acted (commands.Assign command) s boxes ≡ calm boxes (in_scene s (assigned command s.text))
+unfolding acted
+acted_assign command s boxes = refl
+
+pub acted_ignore : (s : Scene) (boxes : List Asked) → acted commands.IgnoreSpaces s boxes ≡ calm boxes (in_scene s (spaces_ignored s.text))
+unfolding acted
+acted_ignore s boxes = refl
 
 pub acted_open : (kind : GroupKind) (s : Scene) (boxes : List Asked) → acted (commands.Open kind) s boxes ≡ calm boxes (in_scene s (group_begun kind s.text))
 unfolding acted

@@ -9,6 +9,9 @@ use Rattle.env_groups.specs.declared.prim.PrimitiveName.{PrimitiveName}
 use Rattle.env_groups.specs.declared.prim.PrimitiveName.TheVariants as prims
 use Rattle.env_groups.specs.Environments.{Nest, meaning_at}
 use Rattle.control_faults.specs.declared.kind.FaultKind.TheVariants as kinds
+use Rattle.assignments.specs.declared.command.Command.{Command as AssignCommand}
+use Rattle.assignments.specs.declared.command.Command.TheVariants as assigning
+use Rattle.assignments.specs.Commands.{command_of as assignment_of}
 use Rattle.main_control.specs.declared.command.Command.{Command}
 use Rattle.main_control.specs.declared.command.Command.TheVariants as commands
 
@@ -41,10 +44,19 @@ primitive_command prims.Par = commands.Nothing
 primitive_command prims.BeginGroup = commands.Open groups.Semi
 primitive_command prims.EndGroup = commands.Close groups.Semi
 primitive_command prims.EndCsName = commands.Refuse kinds.CsnameEnd
+primitive_command prims.IgnoreSpaces = commands.IgnoreSpaces
 primitive_command prims.End = commands.End
 primitive_command _ = commands.Refuse kinds.NotBuilt
 
+-- what a token does that neither assigns nor is a prefix
+abbrev pub plain_command : Meaning → Command
+plain_command (meanings.Primitive prim) = primitive_command prim
+plain_command (meanings.Letter token) = letter_command token
+plain_command _ = commands.Refuse kinds.NotBuilt
+
+abbrev pub command_as : AssignCommand → Meaning → Command
+command_as assigning.Other meaning = plain_command meaning
+command_as command meaning = commands.Assign command
+
 abbrev pub command_of : Meaning → Command
-command_of (meanings.Primitive prim) = primitive_command prim
-command_of (meanings.Letter token) = letter_command token
-command_of _ = commands.Refuse kinds.NotBuilt
+command_of meaning = command_as (assignment_of meaning) meaning

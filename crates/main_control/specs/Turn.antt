@@ -11,6 +11,8 @@ use Rattle.expander.specs.Worlds.{World as Text}
 use Rattle.dvi_writer.specs.Reading.{Asked}
 use Rattle.control_faults.specs.declared.kind.FaultKind.TheVariants as kinds
 use Rattle.control_faults.specs.declared.turn_fault.TurnFault.{TurnFault}
+use Rattle.assignments.specs.Assignments.{assigned}
+use Rattle.assignments.specs.Seeking.{spaces_ignored}
 use Rattle.main_control.specs.declared.command.Command.{Command}
 use Rattle.main_control.specs.declared.command.Command.TheVariants as commands
 use Rattle.main_control.specs.declared.ending.Ending.TheVariants as endings
@@ -39,9 +41,11 @@ ended s boxes =
 -- the group of a command
 unfoldable pub acted : Command → Scene → List Asked → Step
 acted commands.Nothing s boxes = Ok (world s boxes)
+acted (commands.Assign command) s boxes = calm boxes (in_scene s (assigned command s.text))
 acted (commands.Open kind) s boxes = calm boxes (in_scene s (group_begun kind s.text))
 acted (commands.Close kind) s boxes = calm boxes (in_scene s (group_ended kind s.text))
 acted (commands.Refuse kind) s boxes = calm boxes (Err (fault_in kind s.text.at))
+acted commands.IgnoreSpaces s boxes = calm boxes (in_scene s (spaces_ignored s.text))
 acted commands.End s boxes = ended s boxes
 
 abbrev pub on_next : Scene → List Asked → Result (Token × Text) (Stop TurnFault) → Step

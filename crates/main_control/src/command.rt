@@ -1,22 +1,27 @@
 //! What a token does in its turn.
 
 ghost use Rattle.std.specs.Prelude.{◌≡◌};
-ghost use Rattle.main_control.specs.Commands.{meaning_of as the_meaning_of, category_command as the_category_command, letter_command as the_letter_command, primitive_command as the_primitive_command, command_of as the_command_of};
+ghost use Rattle.main_control.specs.Commands.{meaning_of as the_meaning_of, category_command as the_category_command, letter_command as the_letter_command, primitive_command as the_primitive_command, plain_command as the_plain_command, command_of as the_command_of};
 
+use assignments::command_of as assignment_of;
 use control_faults::FaultKind;
 use env_groups::{Env, GroupKind, Meaning, Prim};
 use tok_lists::Token;
 
 /// What a token does in its turn.
-#[derive(Clone, Copy, Debug, PartialEq, Eq)]
+#[derive(Clone, Copy, PartialEq, Eq)]
 pub(crate) enum Command {
     Nothing,
+    /// It assigns, or is a prefix of what assigns.
+    Assign(assignments::Command),
     /// A group of this kind begins.
     Open(GroupKind),
     /// A group ends, which has to be of this kind.
     Close(GroupKind),
     /// It is refused with this fault, before anything more is read.
     Refuse(FaultKind),
+    /// `\ignorespaces`.
+    IgnoreSpaces,
     /// `\end`.
     End,
 }
@@ -62,7 +67,19 @@ fn primitive_command(prim: Prim) -> Command
         Prim::BeginGroup => Command::Open(GroupKind::Semi),
         Prim::EndGroup => Command::Close(GroupKind::Semi),
         Prim::EndCsName => Command::Refuse(FaultKind::CsnameEnd),
+        Prim::IgnoreSpaces => Command::IgnoreSpaces,
         Prim::End => Command::End,
+        _ => Command::Refuse(FaultKind::NotBuilt),
+    }
+}
+
+// What a token does that neither assigns nor is a prefix.
+fn plain_command(meaning: &Meaning) -> Command
+    ensures { result ≡ the_plain_command meaning.now }
+{
+    match meaning {
+        Meaning::Primitive(prim) => primitive_command(*prim),
+        Meaning::Letter(token) => letter_command(*token),
         _ => Command::Refuse(FaultKind::NotBuilt),
     }
 }
@@ -71,9 +88,8 @@ fn primitive_command(prim: Prim) -> Command
 pub(crate) fn command_of(meaning: &Meaning) -> Command
     ensures { result ≡ the_command_of meaning.now }
 {
-    match meaning {
-        Meaning::Primitive(prim) => primitive_command(*prim),
-        Meaning::Letter(token) => letter_command(*token),
-        _ => Command::Refuse(FaultKind::NotBuilt),
+    match assignment_of(meaning) {
+        assignments::Command::Other => plain_command(meaning),
+        command => Command::Assign(command),
     }
 }

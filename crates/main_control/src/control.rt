@@ -138,9 +138,11 @@ impl Control {
     {
         match command {
             Command::Nothing => Ok(()),
+            Command::Assign(command) => Ok(self.assign(files, command)?),
             Command::Open(kind) => Ok(self.open_group(kind)?),
             Command::Close(kind) => Ok(self.close_group(kind)?),
             Command::Refuse(kind) => Err(Halt::Refused(TurnFault::Kind(kind))),
+            Command::IgnoreSpaces => Ok(self.ignore_spaces(files)?),
             Command::End if is_idle(&self.env) => Err(Halt::Ended),
             Command::End => Err(Halt::Refused(TurnFault::Kind(FaultKind::NotBuilt))),
         }

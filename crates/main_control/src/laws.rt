@@ -6,6 +6,7 @@ ghost use Rattle.main_control.specs.Worlds.{World};
 ghost use Rattle.main_control.specs.Turn.{turn_of};
 ghost use Rattle.main_control.specs.Run.{rank, after_turn, run_of};
 
+use assignments::assignments_leave_less;
 use expander::expansions_leave_less;
 
 /// A run is a turn, and then the run from the world after it; and each turn that doesn't end the
@@ -16,4 +17,5 @@ pub fn a_run_is_turn_after_turn()
     ensures lowers { (w next : World) → turn_of w ≡ Ok next → rank next < rank w }
 {
     expansions_leave_less();
+    assignments_leave_less();
 }
