@@ -1,0 +1,5 @@
+pub mod EndCodes
+pub mod Characters
+pub mod Lists
+pub mod Kept
+pub mod Standing
