@@ -102,6 +102,8 @@ impl<'a, S: Sink> PageShipper<'a, S> {
             boxes → self.entry.broken ≡ false
             → PutsFile (held_before (S.held self.entry.out.now) self.entry.put)
             (S.held self.exit.0.now) boxes) }
+        ensures all { OnOk result (Gained (S.held self.entry.out.now) (S.held self.exit.0.now)
+            (last_bytes self.entry.writer)) }
         ensures partly { OnErr result ((boxes : List Asked)
             → Took (S.held self.entry.out.now) self.entry.writer self.entry.put self.entry.broken
             boxes → self.entry.broken ≡ false

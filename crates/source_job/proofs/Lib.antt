@@ -1,0 +1,4 @@
+pub mod Asking
+pub mod Puts
+pub mod Jobs
+pub mod Reporting
