@@ -1,0 +1,4 @@
+pub mod Numbering
+pub mod Defining
+pub mod Standing
+pub mod Refusals

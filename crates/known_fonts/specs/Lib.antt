@@ -1,0 +1,7 @@
+pub mod Sizes
+pub mod Metrics
+pub mod Names
+pub mod Placing
+pub mod Selecting
+pub mod Tables
+pub mod Standing

@@ -1,0 +1,44 @@
+//! Laws of fonts.
+
+ghost use Rattle.std.specs.Prelude.{◌≡◌, ℕ, List, [], ◌++◌, Option, Some, length, All, true};
+ghost use Rattle.std.specs.Option.{option_map};
+ghost use Rattle.ts_outside.specs.States.{Held};
+ghost use Rattle.box_tree.specs.declared.item.FontNo.{FontNo};
+ghost use Rattle.dvi_structure.specs.Structure.{is_sound_font};
+ghost use Rattle.shipping.specs.Boxes.{BeginsWith};
+ghost use Rattle.env_groups.specs.Environments.{start};
+ghost use Rattle.font_store.specs.declared.fonts.Font.{Font};
+ghost use Rattle.font_store.specs.Store.{font_at};
+ghost use Rattle.font_store.specs.Widths.{widths};
+ghost use Rattle.known_fonts.specs.Tables.{definitions};
+ghost use Rattle.known_fonts.specs.Standing.{AreNumbered, AreDefinable, AreAsHeld, measures_by, measures_held};
+
+/// A store that grew has a list of definitions that begins with the one before. Where each font can
+/// be defined, each definition is sound, and there is one for each number of a font.
+#[tactic(auto, using(crate::proofs::Defining::grown_begins, crate::proofs::Defining::all_sound, crate::proofs::Defining::one_each))]
+pub fn definitions_go_on()
+    ensures grown { (fonts more : List Font)
+        → BeginsWith (definitions (fonts ++ more)) (definitions fonts) }
+    ensures sound { (fonts : List Font) → AreDefinable fonts
+        → All (λ f. is_sound_font f ≡ true) (definitions fonts) }
+    ensures each { (fonts : List Font) → length (definitions fonts) ≡ length fonts }
+{}
+
+/// At the start store and environment number fonts alike, and each font is as the files hold it.
+#[tactic(auto, using(crate::proofs::Standing::none_held, crate::proofs::Standing::none_definable))]
+pub fn fonts_begin_so()
+    ensures numbered { AreNumbered start [] }
+    ensures definable { AreDefinable [] }
+    ensures as_held { (held : List Held) → AreAsHeld held [] }
+{}
+
+/// The measures that a font's metric gives at its size are those that the metric of its name gives,
+/// as the files hold it; and their widths are those with which a DVI file is read.
+#[tactic(auto, using(crate::proofs::Standing::held_measures, crate::proofs::Standing::measured_widths))]
+pub fn measures_are_as_held()
+    ensures measures { (held : List Held) (fonts : List Font) (number : FontNo) (font : Font)
+        (code : ℕ) → AreAsHeld held fonts → font_at fonts number ≡ Some font
+        → measures_held held font.name font.size code ≡ measures_by font.metric font.size code }
+    ensures widths { (held : List Held) (name : List ℕ) (size code : ℕ)
+        → widths held name size code ≡ option_map (λ m. m.wd) (measures_held held name size code) }
+{}
