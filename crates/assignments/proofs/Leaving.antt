@@ -100,7 +100,7 @@ env_leaves w call = made_leaves (with_fault (stopped w) call) (λ nest. world w.
 held_leaves : {X : Type 0} (w : World) (call : Result X TurnFault) → Gives (size w.at) (from_env w call)
 held_leaves w call = made_leaves (with_fault (stopped w) call) (λ x. (x, w)) left_with (size w.at) (λ x. omega arith)
 
-stored_leaves : (n : NameNo) (meaning : Meaning) (is_global : Bool) (w : World) → Leaves (size w.at) (meaning_stored n meaning is_global w)
+pub stored_leaves : (n : NameNo) (meaning : Meaning) (is_global : Bool) (w : World) → Leaves (size w.at) (meaning_stored n meaning is_global w)
 unfolding meaning_stored
 stored_leaves n meaning is_global w = env_leaves w (Ok (meaning_set w.nest n.0 meaning is_global))
 
@@ -110,7 +110,7 @@ switched_leaves param on is_global w = env_leaves w (int_stored w.nest (Param pa
 
 -- ---- tokens
 
-solid_falls : (w : World) → IfOk (solid_token w) (λ t. size t.1.at < size w.at)
+pub solid_falls : (w : World) → IfOk (solid_token w) (λ t. size t.1.at < size w.at)
 unfolding solid_token
 solid_falls w = if_bind (found sought.Solid w) _ (λ f. size f.1.at < size w.at) _ (found_falls sought.Solid w) (λ f less. less)
 
@@ -123,9 +123,13 @@ next_leaves w = if_weaker (next_token w) (λ t. size t.1.at < size w.at) _ (next
 found_leaves : (what : Sought) (w : World) → Gives (size w.at) (found what w)
 found_leaves what w = if_weaker (found what w) (λ f. size f.1.at < size w.at) _ (found_falls what w) (λ f less. omega (arith, less))
 
-name_leaves : (w : World) → Gives (size w.at) (name w)
+pub name_falls : (w : World) → IfOk (name w) (λ n. size n.1.at < size w.at)
 unfolding name
-name_leaves w = then_leaves left_with left_with (size w.at) (found sought.Name w) _ (found_leaves sought.Name w) (λ f. checked_leaves name_of (f.0.1, f.1))
+name_falls w = if_bind (found sought.Name w) _ (λ f. size f.1.at < size w.at) _ (found_falls sought.Name w) (λ f less.
+    if_weaker (checked name_of (f.0.1, f.1)) (λ n. size n.1.at ≤ size f.1.at) _ (checked_leaves name_of (f.0.1, f.1)) (λ n few. omega (arith, less, few)))
+
+name_leaves : (w : World) → Gives (size w.at) (name w)
+name_leaves w = if_weaker (name w) (λ n. size n.1.at < size w.at) _ (name_falls w) (λ n less. omega (arith, less))
 
 -- ---- what expansion promises
 
@@ -145,7 +149,7 @@ pub push_size : ListsAdd → (list : List Token) (old new : Reading) → with_fa
 push_size adds list old new is = IfOk-at_ok (λ (v : Reading). size v ≡ size old + length list) is (if_fault (stop_as of_mouth_fault) (with_list list old) _ (adds list old))
 
 module _ (scans : ScansLeave) (definitions : DefinitionsFall) (lists : ListsFall) (adds : ListsAdd) where
-  scanned_leaves : (want : Want) (w : World) → Gives (size w.at) (scanned want w)
+  pub scanned_leaves : (want : Want) (w : World) → Gives (size w.at) (scanned want w)
   unfolding scanned
   scanned_leaves want w = if_fault (turn_stop of_gullet) (with_fault (stop_as of_step_fault) (run (Scan want []) w)) _ (if_fault (stop_as of_step_fault) (run (Scan want []) w) _ (scans want w))
 
@@ -159,18 +163,18 @@ module _ (scans : ScansLeave) (definitions : DefinitionsFall) (lists : ListsFall
   braces_fall w = if_bind (with_fault (turn_stop of_gullet) (with_fault (stop_as of_macro_fault) (braced w.nest w.at))) _ (λ l. size l.1 < size w.at) _
       (if_fault (turn_stop of_gullet) (with_fault (stop_as of_macro_fault) (braced w.nest w.at)) _ (if_fault (stop_as of_macro_fault) (braced w.nest w.at) _ (lists w.nest w.at))) (λ l less. less)
 
-  put_adds : (token : Token) (w : World) → IfOk (put_back token w) (λ v. size v.at ≡ size w.at + 1)
+  pub put_adds : (token : Token) (w : World) → IfOk (put_back token w) (λ v. size v.at ≡ size w.at + 1)
   unfolding put_back
   put_adds token w = if_bind (with_fault (turn_stop of_gullet) (with_fault (stop_as of_mouth_fault) (with_list (token ∷ []) w.at))) _ (λ v. size v ≡ size w.at + 1) _
       (if_fault (turn_stop of_gullet) (with_fault (stop_as of_mouth_fault) (with_list (token ∷ []) w.at)) _ (if_fault (stop_as of_mouth_fault) (with_list (token ∷ []) w.at) _ (adds (token ∷ []) w.at))) (λ v same. same)
 
   -- ---- values
 
-  integer_leaves : (w : World) → Gives (size w.at) (integer w)
+  pub integer_leaves : (w : World) → Gives (size w.at) (integer w)
   unfolding integer
   integer_leaves w = then_leaves left_with left_with (size w.at) (scanned wants.Integer w) _ (scanned_leaves wants.Integer w) (λ v. checked_leaves whole_integer v)
 
-  dimension_leaves : (w : World) → Gives (size w.at) (dimension w)
+  pub dimension_leaves : (w : World) → Gives (size w.at) (dimension w)
   unfolding dimension
   dimension_leaves w = then_leaves left_with left_with (size w.at) (scanned wants.Dimen w) _ (scanned_leaves wants.Dimen w) (λ v. checked_leaves whole_dimen v)
 
@@ -178,13 +182,13 @@ module _ (scans : ScansLeave) (definitions : DefinitionsFall) (lists : ListsFall
   unfolding glue
   glue_leaves w = then_leaves left_with left_with (size w.at) (scanned wants.Glue w) _ (scanned_leaves wants.Glue w) (λ v. checked_leaves whole_glue v)
 
-  equals_leaves : (w : World) → Leaves (size w.at) (equals w)
+  pub equals_leaves : (w : World) → Leaves (size w.at) (equals w)
   unfolding equals
   equals_leaves w = then_leaves left_with left (size w.at) (scanned wants.Equals w) _ (scanned_leaves wants.Equals w) (λ v. omega arith)
 
-  keyword_leaves : (word : Word) (w : World) → Leaves (size w.at) (keyword word w)
+  pub keyword_leaves : (word : Word) (w : World) → Gives (size w.at) (keyword word w)
   unfolding keyword
-  keyword_leaves word w = then_leaves left_with left (size w.at) (scanned (wants.Keyword word) w) _ (scanned_leaves (wants.Keyword word) w) (λ v. omega arith)
+  keyword_leaves word w = then_leaves left_with left_with (size w.at) (scanned (wants.Keyword word) w) _ (scanned_leaves (wants.Keyword word) w) (λ v. omega arith)
 
   register_leaves : (w : World) → Gives (size w.at) (register w)
   unfolding register
@@ -286,7 +290,7 @@ module _ (scans : ScansLeave) (definitions : DefinitionsFall) (lists : ListsFall
   unfolding calculated
   calculated_leaves operation is_global w = then_leaves left_with left (size w.at) (numeric_token w) _ (numeric_leaves w) (λ n.
       then_leaves left_with left (size n.1.at) (variable n.0 n.1) _ (variable_leaves n.0 n.1) (λ v.
-      then_leaves left left (size v.1.at) (keyword By v.1) _ (keyword_leaves By v.1) (λ u. variable_calculated_leaves operation v.0 is_global u)))
+      then_leaves left_with left (size v.1.at) (keyword By v.1) _ (keyword_leaves By v.1) (λ k. variable_calculated_leaves operation v.0 is_global k.1)))
 
   -- ---- assignments
 
@@ -303,7 +307,7 @@ module _ (scans : ScansLeave) (definitions : DefinitionsFall) (lists : ListsFall
   done_leaves p assignments.SetBox w = tt
   done_leaves p (assignments.Measure side) w = tt
 
-  carried_leaves : (p : Prefixes) (assignment : Assignment) (w : World) → Leaves (size w.at) (carried_out p assignment w)
+  pub carried_leaves : (p : Prefixes) (assignment : Assignment) (w : World) → Leaves (size w.at) (carried_out p assignment w)
   unfolding carried_out
   carried_leaves p assignment w = either_leaves (misplaces_long p assignment) _ _ _ tt (done_leaves p assignment w)
 
@@ -312,7 +316,7 @@ module _ (scans : ScansLeave) (definitions : DefinitionsFall) (lists : ListsFall
   as_leaves p (commands.Assigns assignment) w = omega arith
   as_leaves p commands.Other w = tt
 
-  ready_leaves : (command : Command) (w : World) → Gives (size w.at) (ready command w)
+  pub ready_leaves : (command : Command) (w : World) → Gives (size w.at) (ready command w)
   unfolding ready
   ready_leaves (commands.Prefix prefix) w = then_leaves left_with left_with (size w.at) (found _ w) ready_from (found_leaves _ w) (λ f. as_leaves (prefixes_of f.0.0) (command_in f.1.nest f.0.1) f.1)
   ready_leaves (commands.Assigns assignment) w = omega arith

@@ -1,4 +1,5 @@
 pub mod Refusals
 pub mod Fitting
+pub mod Beside
 pub mod Found
 pub mod Leaving

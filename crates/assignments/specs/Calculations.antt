@@ -119,4 +119,4 @@ numeric_token w = next_token w >>= λ t. checked (λ token. numeric_in (command_
 -- keyword by, which may fail, and the operand.
 unfoldable pub calculated : Operation → Bool → World → Outcome World
 calculated operation is_global w =
-    numeric_token w >>= λ n. variable n.0 n.1 >>= λ v. keyword By v.1 >>= λ w. variable_calculated operation v.0 is_global w
+    numeric_token w >>= λ n. variable n.0 n.1 >>= λ v. keyword By v.1 >>= λ k. variable_calculated operation v.0 is_global k.1

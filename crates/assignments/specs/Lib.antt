@@ -1,4 +1,5 @@
 pub mod Worlds
+pub mod Beside
 pub mod Reads
 pub mod Values
 pub mod Variables

@@ -57,9 +57,13 @@ glue w = scanned wants.Glue w >>= checked whole_glue
 unfoldable pub equals : World → Outcome World
 equals w = scanned wants.Equals w >>= λ v. Ok v.1
 
--- A keyword is passed over where it is there.
-unfoldable pub keyword : Word → World → Outcome World
-keyword word w = scanned (wants.Keyword word) w >>= λ v. Ok v.1
+abbrev pub is_there : Value → Bool
+is_there (values.Keyword there) = there
+is_there _ = false
+
+-- Whether a keyword is there; then it is passed over.
+unfoldable pub keyword : Word → World → Outcome (Bool × World)
+keyword word w = scanned (wants.Keyword word) w >>= λ v. Ok (is_there v.0, v.1)
 
 -- ---- numbers of registers and characters
 

@@ -7,6 +7,7 @@ ghost use Rattle.mouth.specs.Sizes.{size};
 ghost use Rattle.expander.specs.Holding.{AreFit, Goes};
 ghost use Rattle.control_faults.specs.TurnFaults.{read_cause, sink_cause};
 ghost use Rattle.assignments.specs.Worlds.{world_of};
+ghost use Rattle.assignments.specs.Beside.{IsBeside};
 ghost use Rattle.assignments.specs.Assignments.{done, carried_out, misplaces_long as the_misplaces_long, prefixes_of as the_prefixes_of, ready_as, ready, assigned};
 
 use crate::calculations::calculate;
@@ -67,6 +68,7 @@ fn perform<F: Files>(
     ensures goes { Goes gullet.old (F.state files.old) gullet.new (F.state files.new) }
     ensures readable { OnOk result (IsReadable gullet.new) }
     ensures fit { AreFit gullet.new.names env.new }
+    ensures beside { IsBeside env.old env.new }
     ensures size { OnOk result (size (reading gullet.new (F.state files.new))
         ≤ size (reading gullet.old (F.state files.old))) }
     ensures unshipped { Uncounted sink_cause result }
@@ -108,6 +110,7 @@ pub fn carry_out<F: Files>(
     ensures goes { Goes gullet.old (F.state files.old) gullet.new (F.state files.new) }
     ensures readable { OnOk result (IsReadable gullet.new) }
     ensures fit { AreFit gullet.new.names env.new }
+    ensures beside { IsBeside env.old env.new }
     ensures size { OnOk result (size (reading gullet.new (F.state files.new))
         ≤ size (reading gullet.old (F.state files.old))) }
     ensures unshipped { Uncounted sink_cause result }
@@ -139,6 +142,7 @@ pub fn read_prefixes<F: Files>(
     ensures goes { Goes gullet.old (F.state files.old) gullet.new (F.state files.new) }
     ensures readable { OnOk result (IsReadable gullet.new) }
     ensures fit { AreFit gullet.new.names env.new }
+    ensures beside { IsBeside env.old env.new }
     ensures size { OnOk result (size (reading gullet.new (F.state files.new))
         ≤ size (reading gullet.old (F.state files.old))) }
     ensures unshipped { Uncounted sink_cause result }
@@ -176,6 +180,7 @@ pub fn assign<F: Files>(
     ensures goes { Goes gullet.old (F.state files.old) gullet.new (F.state files.new) }
     ensures readable { OnOk result (IsReadable gullet.new) }
     ensures fit { AreFit gullet.new.names env.new }
+    ensures beside { IsBeside env.old env.new }
     ensures size { OnOk result (size (reading gullet.new (F.state files.new))
         ≤ size (reading gullet.old (F.state files.old))) }
     ensures unshipped { Uncounted sink_cause result }

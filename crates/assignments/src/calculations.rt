@@ -7,6 +7,7 @@ ghost use Rattle.mouth.specs.Sizes.{size};
 ghost use Rattle.expander.specs.Holding.{AreFit, Goes};
 ghost use Rattle.control_faults.specs.TurnFaults.{read_cause, sink_cause};
 ghost use Rattle.assignments.specs.Worlds.{world_of};
+ghost use Rattle.assignments.specs.Beside.{IsBeside};
 ghost use Rattle.tok_lists.specs.declared.spelling.Spelling.{Spelling};
 ghost use Rattle.box_tree.specs.Bounds.{IsDimen};
 ghost use Rattle.env_groups.specs.Bounds.{IsInt, HasSetDimens};
@@ -108,6 +109,7 @@ fn change_int(
     ensures exact { Agrees (λ _. env.new) read_cause result
         (int_changed env.old key (λ old. the_integer_result operation old by) global) }
     ensures fit { (names : List Spelling) → AreFit names env.old → AreFit names env.new }
+    ensures beside { IsBeside env.old env.new }
     ensures quiet { Uncounted read_cause result }
     ensures unshipped { Uncounted sink_cause result }
 {
@@ -128,6 +130,7 @@ fn change_dim(
     ensures exact { Agrees (λ _. env.new) read_cause result
         (dim_changed env.old key (λ old. the_dimen_result operation old by) global) }
     ensures fit { (names : List Spelling) → AreFit names env.old → AreFit names env.new }
+    ensures beside { IsBeside env.old env.new }
     ensures quiet { Uncounted read_cause result }
     ensures unshipped { Uncounted sink_cause result }
 {
@@ -148,6 +151,7 @@ fn change_glue(
     ensures exact { Agrees (λ _. env.new) read_cause result
         (glue_changed env.old key (λ old. the_glue_result operation old by) global) }
     ensures fit { (names : List Spelling) → AreFit names env.old → AreFit names env.new }
+    ensures beside { IsBeside env.old env.new }
     ensures quiet { Uncounted read_cause result }
     ensures unshipped { Uncounted sink_cause result }
 {
@@ -162,6 +166,7 @@ fn add_dim(env: &mut Env, key: DimKey, by: Sp, global: bool) -> Result<(), TurnF
     ensures exact { Agrees (λ _. env.new) read_cause result
         (dim_changed env.old key (λ old. dimen_advanced old by) global) }
     ensures fit { (names : List Spelling) → AreFit names env.old → AreFit names env.new }
+    ensures beside { IsBeside env.old env.new }
     ensures quiet { Uncounted read_cause result }
     ensures unshipped { Uncounted sink_cause result }
 {
@@ -176,6 +181,7 @@ fn add_glue(env: &mut Env, key: GlueKey, by: Glue, global: bool) -> Result<(), T
     ensures exact { Agrees (λ _. env.new) read_cause result
         (glue_changed env.old key (λ old. glue_advanced old by) global) }
     ensures fit { (names : List Spelling) → AreFit names env.old → AreFit names env.new }
+    ensures beside { IsBeside env.old env.new }
     ensures quiet { Uncounted read_cause result }
     ensures unshipped { Uncounted sink_cause result }
 {
@@ -203,6 +209,7 @@ fn calculate_int<F: Files>(
     ensures goes { Goes gullet.old (F.state files.old) gullet.new (F.state files.new) }
     ensures readable { OnOk result (IsReadable gullet.new) }
     ensures fit { AreFit gullet.new.names env.new }
+    ensures beside { IsBeside env.old env.new }
     ensures size { OnOk result (size (reading gullet.new (F.state files.new))
         ≤ size (reading gullet.old (F.state files.old))) }
     ensures unshipped { Uncounted sink_cause result }
@@ -233,6 +240,7 @@ fn calculate_dim<F: Files>(
     ensures goes { Goes gullet.old (F.state files.old) gullet.new (F.state files.new) }
     ensures readable { OnOk result (IsReadable gullet.new) }
     ensures fit { AreFit gullet.new.names env.new }
+    ensures beside { IsBeside env.old env.new }
     ensures size { OnOk result (size (reading gullet.new (F.state files.new))
         ≤ size (reading gullet.old (F.state files.old))) }
     ensures unshipped { Uncounted sink_cause result }
@@ -267,6 +275,7 @@ fn calculate_glue<F: Files>(
     ensures goes { Goes gullet.old (F.state files.old) gullet.new (F.state files.new) }
     ensures readable { OnOk result (IsReadable gullet.new) }
     ensures fit { AreFit gullet.new.names env.new }
+    ensures beside { IsBeside env.old env.new }
     ensures size { OnOk result (size (reading gullet.new (F.state files.new))
         ≤ size (reading gullet.old (F.state files.old))) }
     ensures unshipped { Uncounted sink_cause result }
@@ -299,6 +308,7 @@ fn calculate_variable<F: Files>(
     ensures goes { Goes gullet.old (F.state files.old) gullet.new (F.state files.new) }
     ensures readable { OnOk result (IsReadable gullet.new) }
     ensures fit { AreFit gullet.new.names env.new }
+    ensures beside { IsBeside env.old env.new }
     ensures size { OnOk result (size (reading gullet.new (F.state files.new))
         ≤ size (reading gullet.old (F.state files.old))) }
     ensures unshipped { Uncounted sink_cause result }
@@ -329,6 +339,7 @@ fn take_numeric<F: Files>(
     ensures goes { Goes gullet.old (F.state files.old) gullet.new (F.state files.new) }
     ensures readable { OnOk result (IsReadable gullet.new) }
     ensures fit { AreFit gullet.new.names env.new }
+    ensures beside { IsBeside env.old env.new }
     ensures size { OnOk result (size (reading gullet.new (F.state files.new))
         ≤ size (reading gullet.old (F.state files.old))) }
     ensures unshipped { Uncounted sink_cause result }
@@ -360,6 +371,7 @@ pub(crate) fn calculate<F: Files>(
     ensures goes { Goes gullet.old (F.state files.old) gullet.new (F.state files.new) }
     ensures readable { OnOk result (IsReadable gullet.new) }
     ensures fit { AreFit gullet.new.names env.new }
+    ensures beside { IsBeside env.old env.new }
     ensures size { OnOk result (size (reading gullet.new (F.state files.new))
         ≤ size (reading gullet.old (F.state files.old))) }
     ensures unshipped { Uncounted sink_cause result }

@@ -44,10 +44,12 @@ pub fn grouping_of(meaning: &Meaning) -> Option<Grouping>
 /// Begins or ends a group (The TeXbook, chapter 24). `GroupsFull` comes exactly where 1000 groups
 /// are open, and `GroupEnd` exactly where no group of this kind is innermost. Refused, it leaves
 /// all as it was.
-#[tactic(auto, using(crate::proofs::Refusals::env_refuses, crate::proofs::Refusals::env_quiet, crate::proofs::Refusals::env_unshipped, crate::proofs::Fitting::opening_fits, crate::proofs::Fitting::closing_fits))]
+#[tactic(auto, using(crate::proofs::Refusals::env_refuses, crate::proofs::Refusals::env_quiet, crate::proofs::Refusals::env_unshipped, crate::proofs::Fitting::opening_fits, crate::proofs::Fitting::closing_fits, crate::proofs::Beside::opening_situation, crate::proofs::Beside::opening_fonts, crate::proofs::Beside::closing_situation, crate::proofs::Beside::closing_fonts))]
 pub fn change_group(env: &mut Env, grouping: Grouping) -> Result<(), TurnFault>
     ensures exact { Agrees (λ _. env.new) read_cause result (group_changed env.old grouping) }
     ensures fit { (names : List Spelling) → AreFit names env.old → AreFit names env.new }
+    ensures situation { env.new.situation ≡ env.old.situation }
+    ensures fonts { env.new.fonts ≡ env.old.fonts }
     ensures quiet { Uncounted read_cause result }
     ensures unshipped { Uncounted sink_cause result }
 {

@@ -22,6 +22,9 @@ pub use command::{
     meant,
 };
 pub use grouping::{Grouping, change_group, grouping_of};
-pub use laws::assignments_leave_less;
-pub use seeking::ignore_spaces;
-pub use variable::{Numbered, Target, Variable};
+pub use laws::{assignments_leave_less, readings_leave_less};
+pub use reads::{put_back, scan, take_next};
+pub use seeking::{ignore_spaces, read_name, take_solid};
+pub use storing::store_meaning;
+pub use values::{read_dimension, read_equals, read_integer, read_keyword};
+pub use variable::{Numbered, Target, Variable, character_at};

@@ -7,6 +7,7 @@ ghost use Rattle.mouth.specs.Sizes.{size};
 ghost use Rattle.expander.specs.Holding.{AreFit, Goes};
 ghost use Rattle.control_faults.specs.TurnFaults.{read_cause, sink_cause};
 ghost use Rattle.assignments.specs.Worlds.{world_of};
+ghost use Rattle.assignments.specs.Beside.{IsBeside};
 ghost use Rattle.tok_lists.specs.declared.spelling.Spelling.{Spelling};
 ghost use Rattle.env_groups.specs.Macros.{IsMeaning};
 ghost use Rattle.raw_texts.specs.Meanings.{meaning_of as the_meaning_of};
@@ -64,6 +65,7 @@ fn pass_equals<F: Files>(
     ensures goes { Goes gullet.old (F.state files.old) gullet.new (F.state files.new) }
     ensures readable { OnOk result (IsReadable gullet.new) }
     ensures fit { AreFit gullet.new.names env.new }
+    ensures beside { IsBeside env.old env.new }
     ensures token { IfOk result (IsToken gullet.new.names) }
     ensures size { OnOk result (size (reading gullet.new (F.state files.new))
         ≤ size (reading gullet.old (F.state files.old))) }
@@ -97,6 +99,7 @@ fn take_value<F: Files>(
     ensures goes { Goes gullet.old (F.state files.old) gullet.new (F.state files.new) }
     ensures readable { OnOk result (IsReadable gullet.new) }
     ensures fit { AreFit gullet.new.names env.new }
+    ensures beside { IsBeside env.old env.new }
     ensures token { IfOk result (IsToken gullet.new.names) }
     ensures size { OnOk result (size (reading gullet.new (F.state files.new))
         ≤ size (reading gullet.old (F.state files.old))) }
@@ -125,6 +128,7 @@ pub(crate) fn let_name<F: Files>(
     ensures goes { Goes gullet.old (F.state files.old) gullet.new (F.state files.new) }
     ensures readable { OnOk result (IsReadable gullet.new) }
     ensures fit { AreFit gullet.new.names env.new }
+    ensures beside { IsBeside env.old env.new }
     ensures size { OnOk result (size (reading gullet.new (F.state files.new))
         ≤ size (reading gullet.old (F.state files.old))) }
     ensures unshipped { Uncounted sink_cause result }
@@ -169,6 +173,7 @@ fn read_shorthand<F: Files>(
     ensures goes { Goes gullet.old (F.state files.old) gullet.new (F.state files.new) }
     ensures readable { OnOk result (IsReadable gullet.new) }
     ensures fit { AreFit gullet.new.names env.new }
+    ensures beside { IsBeside env.old env.new }
     ensures sound { (fonts : ℕ) → IfOk result (IsMeaning fonts) }
     ensures holds { (names : List Spelling) → IfOk result (IsFit names) }
     ensures size { OnOk result (size (reading gullet.new (F.state files.new))
@@ -202,6 +207,7 @@ pub(crate) fn name_number<F: Files>(
     ensures goes { Goes gullet.old (F.state files.old) gullet.new (F.state files.new) }
     ensures readable { OnOk result (IsReadable gullet.new) }
     ensures fit { AreFit gullet.new.names env.new }
+    ensures beside { IsBeside env.old env.new }
     ensures size { OnOk result (size (reading gullet.new (F.state files.new))
         ≤ size (reading gullet.old (F.state files.old))) }
     ensures unshipped { Uncounted sink_cause result }
@@ -246,6 +252,7 @@ pub(crate) fn define<F: Files>(
     ensures goes { Goes gullet.old (F.state files.old) gullet.new (F.state files.new) }
     ensures readable { OnOk result (IsReadable gullet.new) }
     ensures fit { AreFit gullet.new.names env.new }
+    ensures beside { IsBeside env.old env.new }
     ensures size { OnOk result (size (reading gullet.new (F.state files.new))
         ≤ size (reading gullet.old (F.state files.old))) }
     ensures unshipped { Uncounted sink_cause result }

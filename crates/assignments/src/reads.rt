@@ -12,6 +12,7 @@ ghost use Rattle.scan_syntax.specs.Bounds.{IsWithinBounds};
 ghost use Rattle.expander.specs.Holding.{AreFit, Goes};
 ghost use Rattle.control_faults.specs.TurnFaults.{read_cause, sink_cause};
 ghost use Rattle.assignments.specs.Worlds.{world_of};
+ghost use Rattle.assignments.specs.Beside.{IsBeside};
 ghost use Rattle.assignments.specs.Reads.{next_token, raw_token, scanned, macro_read, braces_read, put_back as the_put_back};
 
 use control_faults::TurnFault;
@@ -24,7 +25,7 @@ use ts_outside::Files;
 
 /// Takes the next unexpandable token.
 #[tactic(auto, unfolding(crate::specs::Reads::next_token), using(crate::proofs::Refusals::gullet_refuses, crate::proofs::Refusals::gullet_unshipped))]
-pub(crate) fn take_next<F: Files>(
+pub fn take_next<F: Files>(
     gullet: &mut Gullet,
     files: &mut F,
     env: &mut Env,
@@ -38,6 +39,7 @@ pub(crate) fn take_next<F: Files>(
     ensures goes { Goes gullet.old (F.state files.old) gullet.new (F.state files.new) }
     ensures readable { OnOk result (IsReadable gullet.new) }
     ensures fit { AreFit gullet.new.names env.new }
+    ensures beside { IsBeside env.old env.new }
     ensures token { IfOk result (IsToken gullet.new.names) }
     ensures size { OnOk result (size (reading gullet.new (F.state files.new))
         < size (reading gullet.old (F.state files.old))) }
@@ -64,6 +66,7 @@ pub(crate) fn take_raw<F: Files>(
     ensures goes { Goes gullet.old (F.state files.old) gullet.new (F.state files.new) }
     ensures readable { OnOk result (IsReadable gullet.new) }
     ensures fit { AreFit gullet.new.names env.new }
+    ensures beside { IsBeside env.old env.new }
     ensures token { IfOk result (IsToken gullet.new.names) }
     ensures size { OnOk result (size (reading gullet.new (F.state files.new))
         < size (reading gullet.old (F.state files.old))) }
@@ -76,7 +79,7 @@ pub(crate) fn take_raw<F: Files>(
 
 /// Scans.
 #[tactic(auto, unfolding(crate::specs::Reads::scanned), using(crate::proofs::Refusals::gullet_refuses, crate::proofs::Refusals::gullet_unshipped))]
-pub(crate) fn scan<F: Files>(
+pub fn scan<F: Files>(
     gullet: &mut Gullet,
     files: &mut F,
     env: &mut Env,
@@ -91,6 +94,7 @@ pub(crate) fn scan<F: Files>(
     ensures goes { Goes gullet.old (F.state files.old) gullet.new (F.state files.new) }
     ensures readable { OnOk result (IsReadable gullet.new) }
     ensures fit { AreFit gullet.new.names env.new }
+    ensures beside { IsBeside env.old env.new }
     ensures within { IfOk result IsWithinBounds }
     ensures size { OnOk result (size (reading gullet.new (F.state files.new))
         ≤ size (reading gullet.old (F.state files.old))) }
@@ -119,6 +123,7 @@ pub(crate) fn read_macro<F: Files>(
     ensures goes { Goes gullet.old (F.state files.old) gullet.new (F.state files.new) }
     ensures readable { OnOk result (IsReadable gullet.new) }
     ensures fit { AreFit gullet.new.names env.new }
+    ensures beside { IsBeside env.old env.new }
     ensures defined { IfOk result (IsDefined gullet.new.names) }
     ensures size { OnOk result (size (reading gullet.new (F.state files.new))
         < size (reading gullet.old (F.state files.old))) }
@@ -145,6 +150,7 @@ pub(crate) fn read_braces<F: Files>(
     ensures goes { Goes gullet.old (F.state files.old) gullet.new (F.state files.new) }
     ensures readable { OnOk result (IsReadable gullet.new) }
     ensures fit { AreFit gullet.new.names env.new }
+    ensures beside { IsBeside env.old env.new }
     ensures tokens { IfOk result (AreTokens gullet.new.names) }
     ensures size { OnOk result (size (reading gullet.new (F.state files.new))
         < size (reading gullet.old (F.state files.old))) }
@@ -157,7 +163,7 @@ pub(crate) fn read_braces<F: Files>(
 
 /// Puts a token back, which is met again.
 #[tactic(auto, unfolding(crate::specs::Reads::put_back), using(crate::proofs::Refusals::gullet_refuses, crate::proofs::Refusals::gullet_unshipped, crate::proofs::Leaving::push_size))]
-pub(crate) fn put_back(alloc: Global, gullet: &mut Gullet, token: Token) -> Result<(), TurnFault>
+pub fn put_back(alloc: Global, gullet: &mut Gullet, token: Token) -> Result<(), TurnFault>
     requires token { IsToken gullet.old.names token }
     ensures exact { (state : FilesState) (nest : Nest)
         → AgreesAt (λ _. world_of gullet.new state nest) read_cause gullet.new result

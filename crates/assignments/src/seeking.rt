@@ -7,6 +7,7 @@ ghost use Rattle.mouth.specs.Sizes.{size};
 ghost use Rattle.expander.specs.Holding.{AreFit, Goes};
 ghost use Rattle.control_faults.specs.TurnFaults.{read_cause, sink_cause};
 ghost use Rattle.assignments.specs.Worlds.{world_of};
+ghost use Rattle.assignments.specs.Beside.{IsBeside};
 ghost use Rattle.raw_texts.specs.Meanings.{means_category, is_blank as the_is_blank};
 ghost use Rattle.assignments.specs.Seeking.{with_prefix as the_with_prefix, passed_if as the_passed_if, passed as the_passed, taken, found, name, name_of as the_name_of, solid_token, spaces_ignored};
 
@@ -107,6 +108,7 @@ fn take<F: Files>(
     ensures goes { Goes gullet.old (F.state files.old) gullet.new (F.state files.new) }
     ensures readable { OnOk result (IsReadable gullet.new) }
     ensures fit { AreFit gullet.new.names env.new }
+    ensures beside { IsBeside env.old env.new }
     ensures token { IfOk result (IsToken gullet.new.names) }
     ensures size { OnOk result (size (reading gullet.new (F.state files.new))
         < size (reading gullet.old (F.state files.old))) }
@@ -136,6 +138,7 @@ pub(crate) fn seek<F: Files>(
     ensures goes { Goes gullet.old (F.state files.old) gullet.new (F.state files.new) }
     ensures readable { OnOk result (IsReadable gullet.new) }
     ensures fit { AreFit gullet.new.names env.new }
+    ensures beside { IsBeside env.old env.new }
     ensures token { IfOk result (λ found. IsToken gullet.new.names found.1) }
     ensures size { OnOk result (size (reading gullet.new (F.state files.new))
         < size (reading gullet.old (F.state files.old))) }
@@ -165,7 +168,7 @@ fn name_of(token: Token) -> Result<NameNo, FaultKind>
 /// Reads the name to which a meaning is given (TeX: The Program, section 1215). `NoName` comes
 /// exactly where the first token that isn't a space is no name.
 #[tactic(auto, unfolding(crate::specs::Seeking::name))]
-pub(crate) fn read_name<F: Files>(
+pub fn read_name<F: Files>(
     gullet: &mut Gullet,
     files: &mut F,
     env: &mut Env,
@@ -179,6 +182,7 @@ pub(crate) fn read_name<F: Files>(
     ensures goes { Goes gullet.old (F.state files.old) gullet.new (F.state files.new) }
     ensures readable { OnOk result (IsReadable gullet.new) }
     ensures fit { AreFit gullet.new.names env.new }
+    ensures beside { IsBeside env.old env.new }
     ensures held { IfOk result (λ number. number.0 < length gullet.new.names) }
     ensures size { OnOk result (size (reading gullet.new (F.state files.new))
         < size (reading gullet.old (F.state files.old))) }
@@ -192,7 +196,7 @@ pub(crate) fn read_name<F: Files>(
 
 /// Takes the next token that is neither a space nor `\relax`, with expansion.
 #[tactic(auto, unfolding(crate::specs::Seeking::solid_token))]
-pub(crate) fn take_solid<F: Files>(
+pub fn take_solid<F: Files>(
     gullet: &mut Gullet,
     files: &mut F,
     env: &mut Env,
@@ -206,6 +210,7 @@ pub(crate) fn take_solid<F: Files>(
     ensures goes { Goes gullet.old (F.state files.old) gullet.new (F.state files.new) }
     ensures readable { OnOk result (IsReadable gullet.new) }
     ensures fit { AreFit gullet.new.names env.new }
+    ensures beside { IsBeside env.old env.new }
     ensures token { IfOk result (IsToken gullet.new.names) }
     ensures size { OnOk result (size (reading gullet.new (F.state files.new))
         < size (reading gullet.old (F.state files.old))) }
@@ -235,6 +240,7 @@ pub fn ignore_spaces<F: Files>(
     ensures goes { Goes gullet.old (F.state files.old) gullet.new (F.state files.new) }
     ensures readable { OnOk result (IsReadable gullet.new) }
     ensures fit { AreFit gullet.new.names env.new }
+    ensures beside { IsBeside env.old env.new }
     ensures size { OnOk result (size (reading gullet.new (F.state files.new))
         ≤ size (reading gullet.old (F.state files.old))) }
     ensures unshipped { Uncounted sink_cause result }

@@ -7,6 +7,7 @@ ghost use Rattle.mouth.specs.Sizes.{size};
 ghost use Rattle.expander.specs.Holding.{AreFit, Goes};
 ghost use Rattle.control_faults.specs.TurnFaults.{read_cause, sink_cause};
 ghost use Rattle.assignments.specs.Worlds.{world_of};
+ghost use Rattle.assignments.specs.Beside.{IsBeside};
 ghost use Rattle.tok_lists.specs.declared.spelling.Spelling.{Spelling};
 ghost use Rattle.env_groups.specs.declared.key.IntKey.TheVariants.{Param};
 ghost use Rattle.assignments.specs.Variables.{variable};
@@ -39,6 +40,7 @@ pub(crate) fn read_variable<F: Files>(
     ensures goes { Goes gullet.old (F.state files.old) gullet.new (F.state files.new) }
     ensures readable { OnOk result (IsReadable gullet.new) }
     ensures fit { AreFit gullet.new.names env.new }
+    ensures beside { IsBeside env.old env.new }
     ensures size { OnOk result (size (reading gullet.new (F.state files.new))
         ≤ size (reading gullet.old (F.state files.old))) }
     ensures unshipped { Uncounted sink_cause result }
@@ -74,6 +76,7 @@ fn set_value<F: Files>(
     ensures goes { Goes gullet.old (F.state files.old) gullet.new (F.state files.new) }
     ensures readable { OnOk result (IsReadable gullet.new) }
     ensures fit { AreFit gullet.new.names env.new }
+    ensures beside { IsBeside env.old env.new }
     ensures size { OnOk result (size (reading gullet.new (F.state files.new))
         ≤ size (reading gullet.old (F.state files.old))) }
     ensures unshipped { Uncounted sink_cause result }
@@ -125,6 +128,7 @@ pub(crate) fn set_target<F: Files>(
     ensures goes { Goes gullet.old (F.state files.old) gullet.new (F.state files.new) }
     ensures readable { OnOk result (IsReadable gullet.new) }
     ensures fit { AreFit gullet.new.names env.new }
+    ensures beside { IsBeside env.old env.new }
     ensures size { OnOk result (size (reading gullet.new (F.state files.new))
         ≤ size (reading gullet.old (F.state files.old))) }
     ensures unshipped { Uncounted sink_cause result }
@@ -152,6 +156,7 @@ pub(crate) fn set_switch(
     ensures exact { Agrees (λ _. env.new) read_cause result
         (int_stored env.old (Param param) (the_switch_number on) global) }
     ensures fit { (names : List Spelling) → AreFit names env.old → AreFit names env.new }
+    ensures beside { IsBeside env.old env.new }
     ensures quiet { Uncounted read_cause result }
     ensures unshipped { Uncounted sink_cause result }
 {

@@ -10,6 +10,7 @@ ghost use Rattle.env_groups.specs.Macros.{IsMeaning};
 ghost use Rattle.env_groups.specs.Environments.{meaning_set};
 ghost use Rattle.expander.specs.Holding.{AreFit, IsFit, IsPlainList};
 ghost use Rattle.control_faults.specs.TurnFaults.{read_cause, sink_cause};
+ghost use Rattle.assignments.specs.Beside.{IsBeside};
 ghost use Rattle.assignments.specs.Settings.{int_stored, dim_stored, glue_stored, toks_stored, code_stored};
 
 use control_faults::TurnFault;
@@ -18,7 +19,7 @@ use tok_lists::{NameNo, SharedTokens};
 use ts_geometry::{Glue, Sp};
 
 /// Stores an integer.
-#[tactic(auto, using(crate::proofs::Refusals::env_refuses, crate::proofs::Refusals::env_quiet, crate::proofs::Refusals::env_unshipped, crate::proofs::Fitting::int_fits))]
+#[tactic(auto, using(crate::proofs::Refusals::env_refuses, crate::proofs::Refusals::env_quiet, crate::proofs::Refusals::env_unshipped, crate::proofs::Fitting::int_fits, crate::proofs::Beside::int_beside, crate::proofs::Beside::same_beside))]
 pub(crate) fn store_int(
     env: &mut Env,
     key: IntKey,
@@ -30,6 +31,7 @@ pub(crate) fn store_int(
         (int_stored env.old key value global) }
     ensures fit { (names : List Spelling) → AreFit names env.old
         → AreFit names env.new }
+    ensures beside { IsBeside env.old env.new }
     ensures quiet { Uncounted read_cause result }
     ensures unshipped { Uncounted sink_cause result }
 {
@@ -37,7 +39,7 @@ pub(crate) fn store_int(
 }
 
 /// Stores a dimension, in scaled points.
-#[tactic(auto, using(crate::proofs::Refusals::env_refuses, crate::proofs::Refusals::env_quiet, crate::proofs::Refusals::env_unshipped, crate::proofs::Fitting::dim_fits))]
+#[tactic(auto, using(crate::proofs::Refusals::env_refuses, crate::proofs::Refusals::env_quiet, crate::proofs::Refusals::env_unshipped, crate::proofs::Fitting::dim_fits, crate::proofs::Beside::dim_beside, crate::proofs::Beside::same_beside))]
 pub(crate) fn store_dim(
     env: &mut Env,
     key: DimKey,
@@ -49,6 +51,7 @@ pub(crate) fn store_dim(
         (dim_stored env.old key value global) }
     ensures fit { (names : List Spelling) → AreFit names env.old
         → AreFit names env.new }
+    ensures beside { IsBeside env.old env.new }
     ensures quiet { Uncounted read_cause result }
     ensures unshipped { Uncounted sink_cause result }
 {
@@ -56,7 +59,7 @@ pub(crate) fn store_dim(
 }
 
 /// Stores glue, in scaled points.
-#[tactic(auto, using(crate::proofs::Refusals::env_refuses, crate::proofs::Refusals::env_quiet, crate::proofs::Refusals::env_unshipped, crate::proofs::Fitting::glue_fits))]
+#[tactic(auto, using(crate::proofs::Refusals::env_refuses, crate::proofs::Refusals::env_quiet, crate::proofs::Refusals::env_unshipped, crate::proofs::Fitting::glue_fits, crate::proofs::Beside::glue_beside, crate::proofs::Beside::same_beside))]
 pub(crate) fn store_glue(
     env: &mut Env,
     key: GlueKey,
@@ -68,6 +71,7 @@ pub(crate) fn store_glue(
         (glue_stored env.old key value global) }
     ensures fit { (names : List Spelling) → AreFit names env.old
         → AreFit names env.new }
+    ensures beside { IsBeside env.old env.new }
     ensures quiet { Uncounted read_cause result }
     ensures unshipped { Uncounted sink_cause result }
 {
@@ -75,7 +79,7 @@ pub(crate) fn store_glue(
 }
 
 /// Stores a list of tokens.
-#[tactic(auto, using(crate::proofs::Refusals::env_refuses, crate::proofs::Refusals::env_quiet, crate::proofs::Refusals::env_unshipped, crate::proofs::Fitting::toks_fits))]
+#[tactic(auto, using(crate::proofs::Refusals::env_refuses, crate::proofs::Refusals::env_quiet, crate::proofs::Refusals::env_unshipped, crate::proofs::Fitting::toks_fits, crate::proofs::Beside::toks_beside, crate::proofs::Beside::same_beside))]
 pub(crate) fn store_toks(
     env: &mut Env,
     key: ToksKey,
@@ -87,6 +91,7 @@ pub(crate) fn store_toks(
         (toks_stored env.old key value global) }
     ensures fit { (names : List Spelling) → IsPlainList names value → AreFit names env.old
         → AreFit names env.new }
+    ensures beside { IsBeside env.old env.new }
     ensures quiet { Uncounted read_cause result }
     ensures unshipped { Uncounted sink_cause result }
 {
@@ -94,7 +99,7 @@ pub(crate) fn store_toks(
 }
 
 /// Stores a code.
-#[tactic(auto, using(crate::proofs::Refusals::env_refuses, crate::proofs::Refusals::env_quiet, crate::proofs::Refusals::env_unshipped, crate::proofs::Fitting::code_fits))]
+#[tactic(auto, using(crate::proofs::Refusals::env_refuses, crate::proofs::Refusals::env_quiet, crate::proofs::Refusals::env_unshipped, crate::proofs::Fitting::code_fits, crate::proofs::Beside::code_beside, crate::proofs::Beside::same_beside))]
 pub(crate) fn store_code(
     env: &mut Env,
     key: CodeKey,
@@ -105,6 +110,7 @@ pub(crate) fn store_code(
         (code_stored env.old key value global) }
     ensures fit { (names : List Spelling) → AreFit names env.old
         → AreFit names env.new }
+    ensures beside { IsBeside env.old env.new }
     ensures quiet { Uncounted read_cause result }
     ensures unshipped { Uncounted sink_cause result }
 {
@@ -112,8 +118,8 @@ pub(crate) fn store_code(
 }
 
 /// Stores the meaning of a name.
-#[tactic(auto, using(crate::proofs::Refusals::set_refuses, crate::proofs::Refusals::env_quiet, crate::proofs::Refusals::env_unshipped, crate::proofs::Fitting::meaning_fits))]
-pub(crate) fn store_meaning(
+#[tactic(auto, using(crate::proofs::Refusals::set_refuses, crate::proofs::Refusals::env_quiet, crate::proofs::Refusals::env_unshipped, crate::proofs::Fitting::meaning_fits, crate::proofs::Beside::meaning_beside, crate::proofs::Beside::same_beside))]
+pub fn store_meaning(
     env: &mut Env,
     name: NameNo,
     value: Meaning,
@@ -124,6 +130,7 @@ pub(crate) fn store_meaning(
         (Ok (meaning_set env.old name.0 value global)) }
     ensures fit { (names : List Spelling) → IsFit names value → AreFit names env.old
         → AreFit names env.new }
+    ensures beside { IsBeside env.old env.new }
     ensures quiet { Uncounted read_cause result }
     ensures unshipped { Uncounted sink_cause result }
 {

@@ -7,6 +7,7 @@ ghost use Rattle.mouth.specs.Sizes.{size};
 ghost use Rattle.expander.specs.Holding.{AreFit, Goes};
 ghost use Rattle.control_faults.specs.TurnFaults.{read_cause, sink_cause};
 ghost use Rattle.assignments.specs.Worlds.{world_of};
+ghost use Rattle.assignments.specs.Beside.{IsBeside};
 ghost use Rattle.ts_base.specs.Agreement.{with_fault};
 ghost use Rattle.tok_lists.specs.declared.spelling.Spelling.{Spelling};
 ghost use Rattle.env_groups.specs.Environments.{toks_at};
@@ -61,6 +62,7 @@ fn copy_list<F: Files>(
     ensures goes { Goes gullet.old (F.state files.old) gullet.new (F.state files.new) }
     ensures readable { OnOk result (IsReadable gullet.new) }
     ensures fit { AreFit gullet.new.names env.new }
+    ensures beside { IsBeside env.old env.new }
     ensures plain { IfOk result (IsPlainList gullet.new.names) }
     ensures size { OnOk result (size (reading gullet.new (F.state files.new))
         ≤ size (reading gullet.old (F.state files.old))) }
@@ -95,6 +97,7 @@ fn list_after<F: Files>(
     ensures goes { Goes gullet.old (F.state files.old) gullet.new (F.state files.new) }
     ensures readable { OnOk result (IsReadable gullet.new) }
     ensures fit { AreFit gullet.new.names env.new }
+    ensures beside { IsBeside env.old env.new }
     ensures plain { IfOk result (IsPlainList gullet.new.names) }
     ensures size { OnOk result (size (reading gullet.new (F.state files.new))
         ≤ size (reading gullet.old (F.state files.old))) }
@@ -128,6 +131,7 @@ pub(crate) fn read_list<F: Files>(
     ensures goes { Goes gullet.old (F.state files.old) gullet.new (F.state files.new) }
     ensures readable { OnOk result (IsReadable gullet.new) }
     ensures fit { AreFit gullet.new.names env.new }
+    ensures beside { IsBeside env.old env.new }
     ensures plain { IfOk result (IsPlainList gullet.new.names) }
     ensures size { OnOk result (size (reading gullet.new (F.state files.new))
         ≤ size (reading gullet.old (F.state files.old))) }

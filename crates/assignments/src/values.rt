@@ -7,10 +7,11 @@ ghost use Rattle.mouth.specs.Sizes.{size};
 ghost use Rattle.expander.specs.Holding.{AreFit, Goes};
 ghost use Rattle.control_faults.specs.TurnFaults.{read_cause, sink_cause};
 ghost use Rattle.assignments.specs.Worlds.{world_of};
+ghost use Rattle.assignments.specs.Beside.{IsBeside};
 ghost use Rattle.box_tree.specs.Bounds.{IsDimen};
 ghost use Rattle.scan_syntax.specs.Bounds.{IsWithinBounds};
 ghost use Rattle.env_groups.specs.Bounds.{IsInt, HasSetDimens};
-ghost use Rattle.assignments.specs.Values.{whole_integer as the_whole_integer, whole_dimen as the_whole_dimen, whole_glue as the_whole_glue, is_dimen as the_is_dimen, integer, dimension, glue, equals, keyword, register};
+ghost use Rattle.assignments.specs.Values.{whole_integer as the_whole_integer, whole_dimen as the_whole_dimen, whole_glue as the_whole_glue, is_dimen as the_is_dimen, integer, dimension, glue, equals, is_there as the_is_there, keyword, register};
 
 use crate::reads::scan;
 use crate::variable::register_number;
@@ -65,7 +66,7 @@ fn whole_glue(value: &Value) -> Result<Glue, FaultKind>
 
 /// Reads an integer.
 #[tactic(auto, unfolding(crate::specs::Values::integer))]
-pub(crate) fn read_integer<F: Files>(
+pub fn read_integer<F: Files>(
     gullet: &mut Gullet,
     files: &mut F,
     env: &mut Env,
@@ -79,6 +80,7 @@ pub(crate) fn read_integer<F: Files>(
     ensures goes { Goes gullet.old (F.state files.old) gullet.new (F.state files.new) }
     ensures readable { OnOk result (IsReadable gullet.new) }
     ensures fit { AreFit gullet.new.names env.new }
+    ensures beside { IsBeside env.old env.new }
     ensures within { IfOk result IsInt }
     ensures size { OnOk result (size (reading gullet.new (F.state files.new))
         ≤ size (reading gullet.old (F.state files.old))) }
@@ -92,7 +94,7 @@ pub(crate) fn read_integer<F: Files>(
 
 /// Reads a dimension, in scaled points.
 #[tactic(auto, unfolding(crate::specs::Values::dimension))]
-pub(crate) fn read_dimension<F: Files>(
+pub fn read_dimension<F: Files>(
     gullet: &mut Gullet,
     files: &mut F,
     env: &mut Env,
@@ -106,6 +108,7 @@ pub(crate) fn read_dimension<F: Files>(
     ensures goes { Goes gullet.old (F.state files.old) gullet.new (F.state files.new) }
     ensures readable { OnOk result (IsReadable gullet.new) }
     ensures fit { AreFit gullet.new.names env.new }
+    ensures beside { IsBeside env.old env.new }
     ensures within { IfOk result IsDimen }
     ensures size { OnOk result (size (reading gullet.new (F.state files.new))
         ≤ size (reading gullet.old (F.state files.old))) }
@@ -133,6 +136,7 @@ pub(crate) fn read_glue<F: Files>(
     ensures goes { Goes gullet.old (F.state files.old) gullet.new (F.state files.new) }
     ensures readable { OnOk result (IsReadable gullet.new) }
     ensures fit { AreFit gullet.new.names env.new }
+    ensures beside { IsBeside env.old env.new }
     ensures within { IfOk result HasSetDimens }
     ensures size { OnOk result (size (reading gullet.new (F.state files.new))
         ≤ size (reading gullet.old (F.state files.old))) }
@@ -146,7 +150,7 @@ pub(crate) fn read_glue<F: Files>(
 
 /// Passes over spaces and at most one `=`.
 #[tactic(auto, unfolding(crate::specs::Values::equals))]
-pub(crate) fn read_equals<F: Files>(
+pub fn read_equals<F: Files>(
     gullet: &mut Gullet,
     files: &mut F,
     env: &mut Env,
@@ -160,6 +164,7 @@ pub(crate) fn read_equals<F: Files>(
     ensures goes { Goes gullet.old (F.state files.old) gullet.new (F.state files.new) }
     ensures readable { OnOk result (IsReadable gullet.new) }
     ensures fit { AreFit gullet.new.names env.new }
+    ensures beside { IsBeside env.old env.new }
     ensures size { OnOk result (size (reading gullet.new (F.state files.new))
         ≤ size (reading gullet.old (F.state files.old))) }
     ensures unshipped { Uncounted sink_cause result }
@@ -170,31 +175,38 @@ pub(crate) fn read_equals<F: Files>(
     Ok(())
 }
 
-/// Passes over a keyword where it is there.
+fn is_there(value: &Value) -> bool
+    ensures { result ≡ the_is_there value.now }
+{
+    matches!(value, Value::Keyword(true))
+}
+
+/// Returns whether a keyword is there, which is then passed over.
 #[tactic(auto, unfolding(crate::specs::Values::keyword))]
-pub(crate) fn read_keyword<F: Files>(
+pub fn read_keyword<F: Files>(
     gullet: &mut Gullet,
     files: &mut F,
     env: &mut Env,
     word: Word,
-) -> Result<(), TurnFault>
+) -> Result<bool, TurnFault>
     requires opened { AreOpen gullet.old (F.state files.old) }
     requires readable { IsReadable gullet.old }
     requires fit { AreFit gullet.old.names env.old }
     ensures exact { AreTold gullet.old (F.state files.old)
-        → AgreesAt (λ _. world_of gullet.new (F.state files.new) env.new) read_cause
+        → AgreesAt (λ there. (there, world_of gullet.new (F.state files.new) env.new)) read_cause
         gullet.new result (keyword word (world_of gullet.old (F.state files.old) env.old)) }
     ensures goes { Goes gullet.old (F.state files.old) gullet.new (F.state files.new) }
     ensures readable { OnOk result (IsReadable gullet.new) }
     ensures fit { AreFit gullet.new.names env.new }
+    ensures beside { IsBeside env.old env.new }
     ensures size { OnOk result (size (reading gullet.new (F.state files.new))
         ≤ size (reading gullet.old (F.state files.old))) }
     ensures unshipped { Uncounted sink_cause result }
     ensures counted { Counts read_cause result (F.state files.old).faults
         (F.state files.new).faults }
 {
-    scan(gullet, files, env, Want::Keyword(word))?;
-    Ok(())
+    let value = scan(gullet, files, env, Want::Keyword(word))?;
+    Ok(is_there(&value))
 }
 
 /// Reads the number of a register.
@@ -213,6 +225,7 @@ pub(crate) fn read_register<F: Files>(
     ensures goes { Goes gullet.old (F.state files.old) gullet.new (F.state files.new) }
     ensures readable { OnOk result (IsReadable gullet.new) }
     ensures fit { AreFit gullet.new.names env.new }
+    ensures beside { IsBeside env.old env.new }
     ensures size { OnOk result (size (reading gullet.new (F.state files.new))
         ≤ size (reading gullet.old (F.state files.old))) }
     ensures unshipped { Uncounted sink_cause result }

@@ -57,8 +57,8 @@ fn char_of(number: u32) -> Option<Char>
     }
 }
 
-// The character of a number: a byte, or an internal code.
-fn character_at(n: i64) -> Option<Char>
+/// Returns the character of a number, a byte or an internal code, or `None` where there is none.
+pub fn character_at(n: i64) -> Option<Char>
     ensures { result ≡ the_character_at n }
 {
     match u16::try_from(n) {

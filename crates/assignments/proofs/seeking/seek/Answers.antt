@@ -6,6 +6,7 @@ use Rattle.control_faults.specs.TurnFaults.{read_cause}
 use Rattle.assignments.specs.Worlds.{world_of}
 use Rattle.assignments.specs.Seeking.{passed, found}
 use Rattle.assignments.proofs.Refusals.{refuses_as}
+use Rattle.assignments.proofs.Beside.{beside_then}
 use Rattle.assignments.proofs.Found.{found_on, found_done, found_refused}
 use Rattle.assignments.proofs.seeking.seek.Goals as goal
 
@@ -40,6 +41,7 @@ loop-token-preserved g c =
       goes = goes_then c.args.gullet.now c.loop-token.gullet c.take.new.gullet first before after was.goes c.take.ensures.goes;
       readable = c.in_ok-token.ensures.readable;
       fit = c.take.ensures.fit;
+      beside = beside_then c.args.env.now c.loop-token.env c.take.new.env was.beside c.take.ensures.beside;
       size = omega (arith, c.in_ok-token.ensures.size, was.size);
       counted = c.in_ok-token.ensures.counted ∙ was.counted;
     }

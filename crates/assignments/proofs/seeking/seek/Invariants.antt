@@ -3,6 +3,7 @@ use Rattle.mouth.specs.Sizes.{size}
 use Rattle.mouth.specs.Keeping.{reading, AreTold, IsReadable}
 use Rattle.expander.specs.Holding.{AreFit, Goes}
 use Rattle.assignments.specs.Worlds.{world_of}
+use Rattle.assignments.specs.Beside.{IsBeside}
 use Rattle.assignments.specs.Seeking.{found}
 use Rattle.assignments.proofs.seeking.seek.Given as goal
 
@@ -15,6 +16,7 @@ invariant-loop-token g l =
       goes : Goes l.fn.gullet old l.gullet new;
       readable : IsReadable l.gullet;
       fit : AreFit l.gullet.names l.env;
+      beside : IsBeside l.fn.env l.env;
       size : size (reading l.gullet new) ≤ size (reading l.fn.gullet old);
       counted : new.faults ≡ old.faults;
     }
