@@ -22,7 +22,7 @@ use Rattle.font_commands.proofs.Standing.{reading_kept}
 -- ---- what is checked
 
 checked_by : {X Y : Type 0} (view : X → Y) (r : Reading) (nest : Nest) (result : Result X TurnFault) (given : Result Y FaultKind) → Agrees view read_cause result (with_fault faults.Kind given)
-    → Agrees (λ x. (view x, world r nest)) (stop_cause read_cause) (with_fault (at_place (place_of r)) result) (with_fault (λ kind. refused kind (world r nest)) given >>= λ y. Ok (y, world r nest))
+    → Agrees {Y = Y × World} (λ x. (view x, world r nest)) (stop_cause read_cause) (with_fault (at_place (place_of r)) result) (with_fault (λ kind. refused kind (world r nest)) given >>= λ y. Ok (y, world r nest))
 checked_by view r nest (Ok x) (Ok y) agrees = let same : y ≡ view x = cc in rw same refl
 checked_by view r nest (Ok x) (Err e) agrees = cc
 checked_by view r nest (Err (faults.Kind kind)) (Ok y) agrees = cc
@@ -36,7 +36,7 @@ checked_by view r nest (Err faults.NoMemory) given agrees = tt
 
 -- What is checked of something that was read, with nothing further read.
 pub checked_agrees : {X Y Z : Type 0} (view : X → Y) (test : Z → Result Y FaultKind) (r : Reading) (nest : Nest) (z : Z) (result : Result X TurnFault) → Agrees view read_cause result (with_fault faults.Kind (test z))
-    → Agrees (λ x. (view x, world r nest)) (stop_cause read_cause) (with_fault (at_place (place_of r)) result) (checked test (z, world r nest))
+    → Agrees {Y = Y × World} (λ x. (view x, world r nest)) (stop_cause read_cause) (with_fault (at_place (place_of r)) result) (checked test (z, world r nest))
 checked_agrees view test r nest z result agrees = checked_by view r nest result (test z) agrees
 
 -- ---- what counts nothing

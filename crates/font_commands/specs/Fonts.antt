@@ -34,7 +34,7 @@ Naming = NameNo × Wanted
 -- While the rest is read the name means \relax.
 unfoldable pub naming_read : Bool → World → Outcome (Naming × World)
 naming_read is_global w =
-    name w >>= λ n. meaning_stored n.0 (meanings.Primitive Relax) is_global n.1 >>= font_wanted
+    name w >>= λ n. meaning_stored n.0 (meanings.Primitive Relax) is_global n.1 >>= λ v. font_wanted v
     >>= λ f. Ok ((n.0, f.0), f.1)
 
 -- The name means the number of the font.
