@@ -20,7 +20,8 @@ use Rattle.font_store.specs.Store.{font_at}
 use Rattle.font_store.specs.Widths.{metric_named, width_by, width_in, widths}
 use Rattle.known_fonts.specs.Names.{IsMetricName}
 use Rattle.known_fonts.specs.Tables.{definition}
-use Rattle.known_fonts.specs.Standing.{GrewBy, AreDefinable, AreAsHeld, measures_by, measures_in, measures_held}
+use Rattle.font_store.specs.Measures.{measures_by}
+use Rattle.known_fonts.specs.Standing.{GrewBy, AreDefinable, AreAsHeld, measures_in, measures_held}
 
 pub none_held : (held : List Held) → AreAsHeld held []
 unfolding AreAsHeld

@@ -99,7 +99,7 @@ fn find_or_add(
 /// Gives a font that is wanted its number, with its metric read. `FileMissing` and `FontBad` come
 /// exactly as `load` says, then `FontSize`, and then `FontsFull` exactly where it is new and 255
 /// are there. Refused, it leaves the fonts as they were.
-#[tactic(auto, using(crate::proofs::Defining::begins_itself, crate::proofs::Standing::sound_font, crate::proofs::Standing::definable_grew, crate::proofs::Standing::held_grew, crate::proofs::Refusals::load_refuses, crate::proofs::Refusals::load_counts, crate::proofs::Refusals::load_unships))]
+#[tactic(auto, using(crate::proofs::Defining::begins_itself, crate::proofs::Standing::sound_font, crate::proofs::Standing::definable_grew, crate::proofs::Standing::held_grew, crate::proofs::Shipped::fonts_begin_themselves, crate::proofs::Shipped::fonts_grew, crate::proofs::Refusals::load_refuses, crate::proofs::Refusals::load_counts, crate::proofs::Refusals::load_unships))]
 pub fn place_font<F: Files>(
     alloc: Global,
     files: &mut F,
@@ -120,6 +120,7 @@ pub fn place_font<F: Files>(
     ensures defined { OnOk result (AreDefined table.new fonts.new) }
     ensures begins { BeginsWith table.new table.old }
     ensures refused { OnErr result (fonts.new ≡ fonts.old) }
+    ensures grown { BeginsWith fonts.new fonts.old }
     ensures definable { AreDefinable fonts.old → AreDefinable fonts.new }
     ensures as_held { (held : List Held) → (F.state files.old).held ≡ Some held
         → AreAsHeld held fonts.old → AreAsHeld held fonts.new }
