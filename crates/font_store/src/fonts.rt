@@ -64,6 +64,13 @@ impl Fonts {
         }
     }
 
+    /// Returns how many fonts were added.
+    pub fn len(&self) -> usize
+        ensures { result ≡ length self.now }
+    {
+        self.fonts.len()
+    }
+
     /// Returns the number of the font of this name, as it was spelt, and this size in scaled points:
     /// the first one, or none where no such font was added. Takes no memory.
     pub fn find(&self, name: &FileName, size: u32) -> Option<FontNo>

@@ -2,7 +2,7 @@
 use Rattle.std.proofs.Common.{◌≡◌, ◌∙◌, ℕ, zero, suc, ◌+◌, ◌<◌, ◌⊎◌, inl, inr, List, [], ◌∷◌, ◌++◌, length, get_or, Option, Some, None, All, refl, ap, sym, arith}
 use Rattle.std.specs.Prelude.{slice_get}
 use Rattle.std.specs.Option.{option_map}
-use Rattle.std.proofs.lemmas.List.Elements.{All-weaker}
+use Rattle.std.proofs.lemmas.List.Elements.{All-nil, All-push}
 use Rattle.ts_geometry.specs.declared.measure.Measures.{Measures}
 use Rattle.ts_outside.specs.States.{Held}
 use Rattle.jis_codes.specs.Spellings.{jis}
@@ -18,7 +18,7 @@ use Rattle.shipping.specs.Boxes.{BeginsWith}
 use Rattle.font_store.specs.declared.fonts.Font.{Font}
 use Rattle.font_store.specs.Store as store
 use Rattle.font_store.specs.Widths.{metric_named, widths}
-use Rattle.font_store.specs.Measures.{AreWhole, FontsAreWhole}
+use Rattle.font_store.specs.Measures.{IsWhole, AreWhole, FontsAreWhole}
 use Rattle.open_lists.specs.Glyphs as lists
 use Rattle.open_lists.specs.Glyphs.{IsBoxOf, AreItemsOf, IsItemOf, IsPlainOf}
 use Rattle.known_fonts.specs.Tables.{definition, definitions_from, definitions}
@@ -154,9 +154,9 @@ module _ (fonts : List Font) (count : ℕ) (is : count ≡ length fonts) where
     item_below (box b shift) h = tree_below b h
     item_below (crossed b shift seen) h = tree_below b h
 
-pub fonts_there : (table : List FontDef) (fonts : List Font) (tree : BoxTree) → AreDefined table fonts → IsBoxOf fonts tree
+pub fonts_there : (fonts : List Font) (table : List FontDef) (tree : BoxTree) → AreDefined table fonts → IsBoxOf fonts tree
     → FontsAreBelow (length table) tree
-fonts_there table fonts tree defined h =
+fonts_there fonts table tree defined h =
     let same : length table ≡ length fonts = rw defined (one_each fonts) in
     tree_below fonts (length table) same tree h
 
@@ -176,3 +176,12 @@ fonts_grew old new font (inr more) = (font ∷ [], more)
 pub held_whole : FontsAreWhole → (held : List Held) (fonts : List Font) → AreAsHeld held fonts → AreWhole fonts
 unfolding AreAsHeld
 held_whole given held fonts as_held = given held fonts as_held
+
+pub none_whole : AreWhole []
+unfolding AreWhole
+none_whole = All-nil (λ (f : Font). IsWhole f.metric)
+
+pub whole_grew : (old new : List Font) (font : Font) → GrewBy old font new → IsWhole font.metric → AreWhole old → AreWhole new
+unfolding AreWhole
+whole_grew old new font (inl same) is all = rw same all
+whole_grew old new font (inr more) is all = rw more (All-push (λ (f : Font). IsWhole f.metric) old font all is)

@@ -33,12 +33,14 @@ pub fn definitions_go_on()
     ensures each { (fonts : List Font) → length (definitions fonts) ≡ length fonts }
 {}
 
-/// At the start store and environment number fonts alike, and each font is as the files hold it.
-#[tactic(auto, using(crate::proofs::Standing::none_held, crate::proofs::Standing::none_definable))]
+/// At the start store and environment number fonts alike, and each font is whole and as the files
+/// hold it.
+#[tactic(auto, using(crate::proofs::Standing::none_held, crate::proofs::Standing::none_definable, crate::proofs::Shipped::none_whole))]
 pub fn fonts_begin_so()
     ensures numbered { AreNumbered start [] }
     ensures definable { AreDefinable [] }
     ensures as_held { (held : List Held) → AreAsHeld held [] }
+    ensures whole { AreWhole [] }
 {}
 
 /// The measures that a font's metric gives at its size are those that the metric of its name gives,
@@ -62,21 +64,21 @@ pub fn fonts_as_held_are_whole()
 
 /// Each glyph of a box that is asked to be shipped with the definitions of its fonts has the
 /// measures that the metric of the font gives at its size, as the files hold it; and so its width is
-/// that with which a DVI file is read.
-#[tactic(auto, using(crate::proofs::Shipped::measures_as_held, crate::proofs::Shipped::widths_as_held))]
+/// that with which a DVI file is read, and its font is among the definitions.
+#[tactic(auto, using(crate::proofs::Shipped::measures_as_held, crate::proofs::Shipped::widths_as_held, crate::proofs::Shipped::held_below))]
 pub fn shipped_glyphs_are_as_held()
     ensures measures { (held : List Held) (fonts : List Font) (a : Asked) → AreAsHeld held fonts
         → AreDefined a.fonts fonts → IsBoxOf fonts a.node → HasMeasuresHeld held a }
     ensures widths { (held : List Held) (a : Asked)
         → HasMeasuresHeld held a → HasWidths (file_widths held) a }
+    ensures fonts { (held : List Held) (a : Asked)
+        → HasMeasuresHeld held a → FontsAreBelow (length a.fonts) a.node }
 {}
 
 /// The table of the definitions of fonts has each font of a box whose glyphs are those of the fonts,
 /// as a box has to be shipped.
-#[tactic(auto, using(crate::proofs::Shipped::fonts_there, crate::proofs::Shipped::held_below))]
+#[tactic(auto, using(crate::proofs::Shipped::fonts_there))]
 pub fn shipped_fonts_are_there()
-    ensures defined { (table : List FontDef) (fonts : List Font) (tree : BoxTree)
+    ensures { (fonts : List Font) (table : List FontDef) (tree : BoxTree)
         → AreDefined table fonts → IsBoxOf fonts tree → FontsAreBelow (length table) tree }
-    ensures held { (held : List Held) (a : Asked)
-        → HasMeasuresHeld held a → FontsAreBelow (length a.fonts) a.node }
 {}
