@@ -11,6 +11,7 @@ ghost use Rattle.expander.specs.Holding.{AreFit, Goes};
 ghost use Rattle.control_faults.specs.TurnFaults.{read_cause, sink_cause};
 ghost use Rattle.assignments.specs.Worlds.{world_of};
 ghost use Rattle.assignments.specs.Beside.{IsBeside};
+ghost use Rattle.font_store.specs.Measures.{AreWhole};
 ghost use Rattle.known_fonts.specs.Names.{IsMetricName};
 ghost use Rattle.known_fonts.specs.Standing.{AreNumbered, AreDefined, AreDefinable, AreAsHeld};
 ghost use Rattle.font_commands.specs.Fonts.{font_wanted, naming_read, font_named, font_defined};
@@ -123,6 +124,7 @@ fn name_font<F: Files>(
     ensures defined { OnOk result (AreDefined table.new fonts.new) }
     ensures begins { BeginsWith table.new table.old }
     ensures grown { BeginsWith fonts.new fonts.old }
+    ensures whole { AreWhole fonts.old → AreWhole fonts.new }
     ensures definable { AreDefinable fonts.old → AreDefinable fonts.new }
     ensures as_held { (held : List Held) → (F.state files.old).held ≡ Some held
         → AreAsHeld held fonts.old → AreAsHeld held fonts.new }
@@ -167,6 +169,7 @@ pub fn define_font<F: Files>(
     ensures defined { OnOk result (AreDefined table.new fonts.new) }
     ensures begins { BeginsWith table.new table.old }
     ensures grown { BeginsWith fonts.new fonts.old }
+    ensures whole { AreWhole fonts.old → AreWhole fonts.new }
     ensures definable { AreDefinable fonts.old → AreDefinable fonts.new }
     ensures as_held { (held : List Held) → (F.state files.old).held ≡ Some held
         → AreAsHeld held fonts.old → AreAsHeld held fonts.new }

@@ -9,7 +9,7 @@ use Rattle.jfm_load.specs.Metrics as jfm
 use Rattle.font_store.specs.declared.metric.Metric.TheVariants.{Japanese}
 use Rattle.font_store.specs.Widths.{width_by}
 
-cell_is_jis : (k : Kuten) → IsKuten k → is_jis (number_of jis k) ≡ true
+pub cell_is_jis : (k : Kuten) → IsKuten k → is_jis (number_of jis k) ≡ true
 unfolding is_jis
 cell_is_jis k there =
     let row : number_of jis k / 256 - 32 ≡ k.row = omega (arith, there.3) in

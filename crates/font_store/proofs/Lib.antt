@@ -1,3 +1,4 @@
 mod Glyphs
 mod Fronts
 mod FirstWords
+pub mod Whole

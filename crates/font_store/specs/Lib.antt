@@ -4,3 +4,4 @@ pub mod Pieces
 pub mod Store
 pub mod Widths
 pub mod Bounds
+pub mod Measures

@@ -1,5 +1,5 @@
 -- Fonts by number: the fonts in the order in which they were added, each with its name as it was spelt, its size and its metric.
-use Rattle.std.specs.Prelude.{ℕ, Bool, List, ◌==◌, ◌&&◌, Option, slice_get, position}
+use Rattle.std.specs.Prelude.{◌≡◌, ℕ, Bool, List, ◌++◌, ◌==◌, ◌&&◌, Option, slice_get, position}
 use Rattle.std.specs.Option.{option_map}
 use Rattle.std.specs.Str.{bytes_eq}
 use Rattle.box_tree.specs.declared.item.FontNo.{FontNo}
@@ -29,3 +29,7 @@ name_at fonts font = option_map (λ f. f.name) (font_at fonts font)
 
 abbrev pub size_at : List Font → FontNo → Option ℕ
 size_at fonts font = option_map (λ f. f.size) (font_at fonts font)
+
+-- The fonts begin with these: fonts only come after those that are there.
+abbrev pub BeginWith : List Font → List Font → Type 0
+BeginWith fonts first = (more : List Font) × (fonts ≡ first ++ more)

@@ -7,7 +7,9 @@ mod loading;
 mod metric;
 
 pub use fonts::Fonts;
-pub use laws::widths_are_those_of_the_metrics;
+pub use laws::{
+    cells_have_their_measures, loaded_metrics_are_whole, widths_are_those_of_the_metrics,
+};
 pub use loading::{LoadFault, load};
 pub use metric::Metric;
 

@@ -1,12 +1,14 @@
 //! The metric of a file.
 
-ghost use Rattle.std.specs.Prelude.{◌≡◌, ◌≤◌, ℕ, List, true, Some, Ok, take, length, OnOk};
+ghost use Rattle.std.specs.Prelude.{◌≡◌, ◌≤◌, ℕ, List, true, Some, Ok, take, length, OnOk, IfOk};
 ghost use Rattle.ts_base.specs.Agreement.{Agrees, Counts, Uncounted, with_fault};
 ghost use Rattle.ts_outside.specs.States.{Held, KeepsAll, ReadsOn};
 ghost use Rattle.font_store.specs.Metrics.{metric_of};
 ghost use Rattle.font_store.specs.Loading.{load_cause, load_fault, loaded};
+ghost use Rattle.font_store.specs.Measures.{IsWhole};
 ghost use Rattle.font_store.specs.Pieces.{IsFront, size_of, first_bytes};
 
+use crate::laws::loaded_metrics_are_whole;
 use crate::metric::{Metric, read};
 use metric_words::{begins_as_jfm, halfword_at};
 use std::alloc::Global;
@@ -112,8 +114,10 @@ fn read_metric<F: Files>(alloc: Global, files: &mut F, file: FileNo) -> Result<V
 fn metric_in(alloc: Global, bytes: &[u8]) -> Result<Metric, LoadFault>
     ensures exact { Agrees (λ m. m) load_cause result
         (with_fault load_fault (metric_of bytes.now)) }
+    ensures whole { IfOk result IsWhole }
     ensures quiet { Uncounted load_cause result }
 {
+    loaded_metrics_are_whole();
     Ok(read(alloc, bytes)?)
 }
 
@@ -124,10 +128,11 @@ fn metric_in(alloc: Global, bytes: &[u8]) -> Result<Metric, LoadFault>
 ///
 /// `Missing` comes exactly where there is no such file, `Bad` exactly where the file isn't a
 /// metric, with its first fault, and `ReadFault` only where the files counted a fault. Refused,
-/// nothing is kept.
+/// nothing is kept. A metric that is read is whole: it has each ligature that its programs put.
 pub fn load<F: Files>(alloc: Global, files: &mut F, name: &FileName) -> Result<Metric, LoadFault>
     ensures exact { (held : List Held) → (F.state files.old).held ≡ Some held
         → Agrees (λ m. m) load_cause result (loaded held name.now) }
+    ensures whole { IfOk result IsWhole }
     ensures kept { KeepsAll (F.state files.old) (F.state files.new) }
     ensures counted { Counts load_cause result
         (F.state files.old).faults (F.state files.new).faults }

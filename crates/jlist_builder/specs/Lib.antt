@@ -4,3 +4,4 @@ pub mod Spaces
 pub mod Gaps
 pub mod Stands
 pub mod Sound
+pub mod Glyphs

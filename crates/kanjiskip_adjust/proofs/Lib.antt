@@ -5,3 +5,4 @@ pub mod Passing
 pub mod Keeping
 pub mod Sums
 pub mod Soundness
+pub mod Coming

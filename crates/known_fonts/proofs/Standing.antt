@@ -1,5 +1,5 @@
 -- What is true of fonts as one is added.
-use Rattle.std.proofs.Common.{◌≡◌, ◌∙◌, ℕ, zero, suc, ◌<◌, ◌≤◌, ◌⊎◌, inl, inr, ◌&&◌, List, [], ◌∷◌, ◌++◌, length, All, true, false, Bool, Option, Some, None, Result, Ok, Err, IsTrue, refl, ap, sym, arith}
+use Rattle.std.proofs.Common.{◌≡◌, ◌∙◌, ℕ, zero, suc, ◌<◌, ◌≤◌, ◌⊎◌, inl, inr, ◌&&◌, List, [], ◌∷◌, ◌++◌, length, All, true, false, Bool, Option, Some, None, Result, Ok, Err, IsTrue, refl, ap, arith}
 use Rattle.std.specs.Prelude.{slice_get, nat_le, nat_lt, if◌then◌else◌}
 use Rattle.std.specs.Option.{option_map}
 use Rattle.std.proofs.lemmas.List.Elements.{All-nil, All-head, All-tail, All-push}
@@ -18,10 +18,10 @@ use Rattle.font_store.specs.declared.metric.Metric.TheVariants.{Roman, Japanese}
 use Rattle.font_store.specs.declared.loading.LoadFault.{LoadFault}
 use Rattle.font_store.specs.Store.{font_at}
 use Rattle.font_store.specs.Widths.{metric_named, width_by, width_in, widths}
-use Rattle.shipping.specs.Boxes.{BeginsWith}
 use Rattle.known_fonts.specs.Names.{IsMetricName}
 use Rattle.known_fonts.specs.Tables.{definition}
-use Rattle.known_fonts.specs.Standing.{GrewBy, AreDefinable, AreAsHeld, measures_by, measures_in, measures_held}
+use Rattle.font_store.specs.Measures.{measures_by}
+use Rattle.known_fonts.specs.Standing.{GrewBy, AreDefinable, AreAsHeld, measures_in, measures_held}
 
 pub none_held : (held : List Held) → AreAsHeld held []
 unfolding AreAsHeld
@@ -78,14 +78,3 @@ pub held_grew : (held : List Held) (old new : List Font) (font : Font) → GrewB
 unfolding AreAsHeld
 held_grew held old new font (inl same) is all = rw same all
 held_grew held old new font (inr more) is all = rw more (All-push (λ f. metric_named held f.name ≡ Ok f.metric) old font all is)
-
-end_none : (fonts : List Font) → fonts ++ [] ≡ fonts
-end_none [] = refl
-end_none (f ∷ fonts) = ap (λ (xs : List Font). f ∷ xs) (end_none fonts)
-
-pub fonts_begin_themselves : (fonts : List Font) → BeginsWith fonts fonts
-fonts_begin_themselves fonts = ([], sym (end_none fonts))
-
-pub fonts_grew : (old new : List Font) (font : Font) → GrewBy old font new → BeginsWith new old
-fonts_grew old new font (inl same) = rw same (fonts_begin_themselves old)
-fonts_grew old new font (inr more) = (font ∷ [], more)

@@ -5,3 +5,4 @@ pub mod Placing
 pub mod Selecting
 pub mod Tables
 pub mod Standing
+pub mod Shipped

@@ -1,18 +1,15 @@
 -- What is true of fonts at all times, and what it gives.
-use Rattle.std.specs.Prelude.{◌≡◌, ◌⊎◌, ℕ, true, List, [], ◌∷◌, ◌++◌, map, All, Option, Some, None, if◌then◌else◌, Result, Ok, Err}
+use Rattle.std.specs.Prelude.{◌≡◌, ◌⊎◌, ℕ, true, List, [], ◌∷◌, ◌++◌, map, All, Option, Some, None, Result, Ok, Err}
 use Rattle.ts_geometry.specs.declared.measure.Measures.{Measures}
 use Rattle.ts_outside.specs.States.{Held}
-use Rattle.tfm_load.specs.Metrics as tfm
-use Rattle.jfm_load.specs.Metrics as jfm
-use Rattle.jfm_load.specs.CharTypes.{class_in, is_jis}
 use Rattle.dvi_commands.specs.declared.font.FontDef.{FontDef}
 use Rattle.dvi_structure.specs.Structure.{is_sound_font}
 use Rattle.env_groups.specs.Environments.{Nest}
 use Rattle.font_store.specs.declared.fonts.Font.{Font}
 use Rattle.font_store.specs.declared.metric.Metric.{Metric}
-use Rattle.font_store.specs.declared.metric.Metric.TheVariants.{Roman, Japanese}
 use Rattle.font_store.specs.declared.loading.LoadFault.{LoadFault}
 use Rattle.font_store.specs.Widths.{metric_named}
+use Rattle.font_store.specs.Measures.{measures_by}
 use Rattle.known_fonts.specs.Metrics.{facts_in}
 use Rattle.known_fonts.specs.Tables.{definition, definitions}
 
@@ -37,11 +34,6 @@ unfoldable pub AreAsHeld : List Held → List Font → Type 0
 AreAsHeld held fonts = All (λ font. metric_named held font.name ≡ Ok font.metric) fonts
 
 -- ---- measures, as the files hold them
-
--- the measures of a code at a size, where the font has the code: of a Japanese font a number of JIS, by its class
-abbrev pub measures_by : Metric → ℕ → ℕ → Option Measures
-measures_by (Roman m) size code = tfm.measures_of m code size
-measures_by (Japanese m) size code = if is_jis code then Some (jfm.measures_of m (class_in m.char_types code) size) else None
 
 abbrev pub measures_in : Result Metric LoadFault → ℕ → ℕ → Option Measures
 measures_in (Ok metric) size code = measures_by metric size code

@@ -10,7 +10,10 @@ mod selecting;
 mod sizes;
 mod tables;
 
-pub use laws::{definitions_go_on, fonts_begin_so, measures_are_as_held};
+pub use laws::{
+    definitions_go_on, fonts_as_held_are_whole, fonts_begin_so, measures_are_as_held,
+    shipped_fonts_are_there, shipped_glyphs_are_as_held,
+};
 pub use names::FontName;
 pub use placing::{Wanted, place_font};
 pub use selecting::select_font;

@@ -5,6 +5,7 @@ ghost use Rattle.ts_base.specs.Agreement.{Agrees, Counts, Uncounted};
 ghost use Rattle.ts_outside.specs.States.{Held, KeepsAll};
 ghost use Rattle.shipping.specs.Boxes.{BeginsWith};
 ghost use Rattle.control_faults.specs.TurnFaults.{read_cause, sink_cause};
+ghost use Rattle.font_store.specs.Measures.{AreWhole};
 ghost use Rattle.known_fonts.specs.Names.{IsMetricName};
 ghost use Rattle.known_fonts.specs.Placing.{placed_as, placed, placed_wanted};
 ghost use Rattle.known_fonts.specs.Standing.{GrewBy, AreNumbered, AreDefined, AreDefinable, AreAsHeld};
@@ -99,7 +100,7 @@ fn find_or_add(
 /// Gives a font that is wanted its number, with its metric read. `FileMissing` and `FontBad` come
 /// exactly as `load` says, then `FontSize`, and then `FontsFull` exactly where it is new and 255
 /// are there. Refused, it leaves the fonts as they were.
-#[tactic(auto, using(crate::proofs::Defining::begins_itself, crate::proofs::Standing::sound_font, crate::proofs::Standing::definable_grew, crate::proofs::Standing::held_grew, crate::proofs::Standing::fonts_begin_themselves, crate::proofs::Standing::fonts_grew, crate::proofs::Refusals::load_refuses, crate::proofs::Refusals::load_counts, crate::proofs::Refusals::load_unships))]
+#[tactic(auto, using(crate::proofs::Defining::begins_itself, crate::proofs::Standing::sound_font, crate::proofs::Standing::definable_grew, crate::proofs::Standing::held_grew, crate::proofs::Shipped::fonts_begin_themselves, crate::proofs::Shipped::fonts_grew, crate::proofs::Shipped::whole_grew, crate::proofs::Refusals::load_refuses, crate::proofs::Refusals::load_counts, crate::proofs::Refusals::load_unships))]
 pub fn place_font<F: Files>(
     alloc: Global,
     files: &mut F,
@@ -121,6 +122,7 @@ pub fn place_font<F: Files>(
     ensures begins { BeginsWith table.new table.old }
     ensures refused { OnErr result (fonts.new ≡ fonts.old) }
     ensures grown { BeginsWith fonts.new fonts.old }
+    ensures whole { AreWhole fonts.old → AreWhole fonts.new }
     ensures definable { AreDefinable fonts.old → AreDefinable fonts.new }
     ensures as_held { (held : List Held) → (F.state files.old).held ≡ Some held
         → AreAsHeld held fonts.old → AreAsHeld held fonts.new }

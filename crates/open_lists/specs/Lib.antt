@@ -3,3 +3,4 @@ pub mod Characters
 pub mod Lists
 pub mod Kept
 pub mod Standing
+pub mod Glyphs

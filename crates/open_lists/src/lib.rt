@@ -5,6 +5,7 @@ mod codes;
 mod contents;
 mod ending;
 mod fault;
+pub mod laws;
 mod list;
 mod lists;
 mod plan;

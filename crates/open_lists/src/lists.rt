@@ -92,8 +92,8 @@ impl OpenLists {
         }
     }
 
-    // Whether 200 lists are open, the main one counted.
-    fn is_deep(&self) -> bool
+    /// Returns whether 200 lists are open, the main one counted. Takes no memory.
+    pub fn is_deep(&self) -> bool
         ensures lists { (entries : List (List Entry))
             → result ≡ is_deep (lists_of self.now entries) }
         ensures kept { result ≡ nat_le 199 (length self.now.inner) }

@@ -3,3 +3,4 @@ pub mod FirstFault
 pub mod Prefix
 pub mod Starts
 pub mod Near
+pub mod Ligatures

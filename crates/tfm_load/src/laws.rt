@@ -8,7 +8,7 @@ ghost use Rattle.metric_words.specs.Words.{halfword};
 ghost use Rattle.metric_words.specs.Checking.{IsFirstBad};
 ghost use Rattle.tfm_load.specs.Metrics.{Metric, metric_of, lengths_in, kinds_of, measures_of, pair_of};
 ghost use Rattle.metric_words.specs.Sound.{AreWithin};
-ghost use Rattle.tfm_load.specs.Sound.{HasFixWords, is_fix_step};
+ghost use Rattle.tfm_load.specs.Sound.{HasFixWords, HasItsLigatures, is_fix_step};
 
 /// A metric is in the words that its file counts, or in its first 28 bytes where these are more:
 /// what follows them is ignored. Each halfword is in its bytes, so also the count of the words.
@@ -39,4 +39,10 @@ pub fn a_metric_stays_near()
         → IsTrue (is_fix_step (pair_of m left right)) }
     ensures measures { (m : Metric) (code z : ℕ) → HasFixWords m
         → IfSome (measures_of m code z) (AreWithin (16 * z)) }
+{}
+
+/// Each ligature that a program of a metric without a fault puts is a character of the font.
+#[tactic(auto, using(crate::proofs::Ligatures::ligatures_there))]
+pub fn ligatures_are_there()
+    ensures { (file : List ℕ) (m : Metric) → metric_of file ≡ Ok m → HasItsLigatures m }
 {}

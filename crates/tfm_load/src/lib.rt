@@ -7,7 +7,8 @@ mod programs;
 mod roman;
 
 pub use laws::{
-    a_metric_is_in_its_first_words, a_metric_stays_near, the_first_fault_is_the_first_bad_word,
+    a_metric_is_in_its_first_words, a_metric_stays_near, ligatures_are_there,
+    the_first_fault_is_the_first_bad_word,
 };
 pub use programs::Step;
 pub use roman::{Roman, read};
