@@ -9,7 +9,7 @@ use Rattle.env_groups.specs.declared.fault.EnvFault.{EnvFault}
 use Rattle.env_groups.specs.declared.fault.EnvFault.TheVariants as env_faults
 use Rattle.env_groups.specs.Environments.{Nest, env_cause}
 use Rattle.mouth.specs.Reading.{Reading, at_place, stop_cause, place_of}
-use Rattle.mouth.specs.Keeping.{MouthView, reading, place_in, AreOpen, AgreesAt}
+use Rattle.mouth.specs.Keeping.{MouthView, reading, AreOpen, AgreesAt}
 use Rattle.font_store.specs.declared.fonts.Font.{Font}
 use Rattle.expander.specs.Worlds.{World, world}
 use Rattle.control_faults.specs.declared.kind.FaultKind.{FaultKind}

@@ -1,5 +1,5 @@
 -- What the commands of fonts leave is no more than what was there.
-use Rattle.std.proofs.Common.{◌≡◌, ◌≤◌, ◌<◌, ℕ, Bool, true, false, List, Result, Ok, Err, arith}
+use Rattle.std.proofs.Common.{◌≤◌, ◌<◌, ℕ, Bool, true, false, List, Result, Ok, Err, arith}
 use Rattle.std.specs.Prelude.{IfOk, if◌then◌else◌}
 use Rattle.ts_base.specs.Agreement.{◌>>=◌, with_fault}
 use Rattle.ts_outside.specs.States.{Held}
@@ -15,13 +15,11 @@ use Rattle.scan_syntax.specs.declared.word.Word.{Word}
 use Rattle.scan_syntax.specs.declared.word.Word.TheVariants as words
 use Rattle.font_store.specs.declared.fonts.Font.{Font}
 use Rattle.expander.specs.Worlds.{World, world}
-use Rattle.control_faults.specs.declared.turn_fault.TurnFault.{TurnFault}
-use Rattle.assignments.specs.Worlds.{Outcome, stopped, refused, checked, in_env}
+use Rattle.assignments.specs.Worlds.{Outcome, stopped, refused}
 use Rattle.assignments.specs.Reads.{scanned}
 use Rattle.assignments.specs.Values.{integer, dimension, equals, keyword}
 use Rattle.assignments.specs.Seeking.{name}
 use Rattle.assignments.specs.Namings.{meaning_stored}
-use Rattle.known_fonts.specs.Placing.{Wanted}
 use Rattle.font_commands.specs.Names.{name_found, font_name}
 use Rattle.font_commands.specs.Sizings.{size_at, size_scaled, scaled_if, scale_said, at_if, size_said}
 use Rattle.font_commands.specs.Fonts.{Naming, font_wanted, naming_read, font_named, named_in, font_defined, font_chosen, font_used}

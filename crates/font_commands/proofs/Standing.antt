@@ -1,8 +1,7 @@
 -- What stays where files are kept, and where the environment gets a font or selects one.
-use Rattle.std.proofs.Common.{◌≡◌, ◌∙◌, ◌<◌, ℕ, zero, suc, Bool, true, List, [], ◌∷◌, length, map, Option, IsSome, Result, Ok, refl, ap}
+use Rattle.std.proofs.Common.{◌≡◌, ◌∙◌, ◌<◌, ℕ, suc, Bool, true, List, [], ◌∷◌, length, map, Option, refl, ap}
 use Rattle.ts_outside.specs.States.{Held, FilesState, KeepsAll, AllOpen, AllTold}
 use Rattle.tok_lists.specs.declared.spelling.Spelling.{Spelling}
-use Rattle.tok_lists.proofs.Growing.{grew_itself}
 use Rattle.box_tree.specs.declared.item.FontNo.{FontNo}
 use Rattle.env_groups.specs.declared.font.FontSlot.{FontSlot}
 use Rattle.env_groups.specs.declared.font.FontFacts.{FontFacts}

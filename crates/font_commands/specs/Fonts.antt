@@ -1,5 +1,5 @@
 -- \font and the names of fonts (The TeXbook, chapter 4; TeX: The Program, sections 1217 and 1257 to 1261; pTeX).
-use Rattle.std.specs.Prelude.{ℕ, nat_lt, Bool, if◌then◌else◌, List, length, Result, Ok, Err}
+use Rattle.std.specs.Prelude.{nat_lt, Bool, if◌then◌else◌, List, length, Result, Ok, Err}
 use Rattle.ts_base.specs.Agreement.{◌>>=◌, with_fault}
 use Rattle.ts_outside.specs.States.{Held}
 use Rattle.tok_lists.specs.declared.token.NameNo.{NameNo}

@@ -1,4 +1,4 @@
-use Rattle.std.proofs.Common.{◌≡◌, ◌∙◌}
+use Rattle.std.proofs.Common.{◌∙◌}
 use Rattle.font_commands.specs.Fonts.{font_defined}
 use Rattle.font_commands.proofs.Answering.{named_agrees}
 use Rattle.font_commands.proofs.defining.define_font.Goals as goal
