@@ -23,7 +23,8 @@ use ts_outside::Files;
 
 // The name of a font that a scan found.
 fn name_in(alloc: Global, value: Value) -> Result<FontName, TurnFault>
-    ensures exact { Agrees (λ n. n.spelt) read_cause result (with_fault TheKind (name_found value)) }
+    ensures exact { Agrees (λ n. n.spelt) read_cause result
+        (with_fault TheKind (name_found value)) }
     ensures named { IfOk result (λ n. IsMetricName n.spelt n.file) }
     ensures quiet { Uncounted read_cause result }
     ensures unshipped { Uncounted sink_cause result }
