@@ -5,4 +5,6 @@
 #[cfg(test)]
 mod assigned;
 #[cfg(test)]
+mod pages;
+#[cfg(test)]
 mod runs;

@@ -120,7 +120,7 @@ const ROWS: [Row; 15] = [
 ];
 
 /// Returns how a run ended.
-fn how_it_ended(ending: Ending) -> Met {
+pub(crate) fn how_it_ended(ending: Ending) -> Met {
     match ending {
         Ending::Ended => Met::End,
         Ending::Fault(fault) => Met::Fault(fault.kind, fault.place.line),

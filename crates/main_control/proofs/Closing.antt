@@ -98,9 +98,9 @@ was_ok : {X E D : Type 0} (becomes : E → D) (r : Result X E) (x : X) → with_
 was_ok becomes (Ok y) x is = let same : y ≡ x = cc in rw same refl
 was_ok becomes (Err e) x is = let never : ⊥ = cc in absurd never
 
-pub if_some : {A : Type 0} (o : Option A) (P Q : A → Type 0) → IfSome o P → (IsSome o → (a : A) → P a → Q a) → IfSome o Q
+pub if_some : {A : Type 0} (o : Option A) (P Q : A → Type 0) → IfSome o P → ((a : A) → o ≡ Some a → P a → Q a) → IfSome o Q
 if_some None P Q given so = tt
-if_some (Some a) P Q given so = so refl a given
+if_some (Some a) P Q given so = so a refl given
 
 pub run_whole : (stands : List Asked → Type 0) (held : List Held) (coding : Coding) (budget : ℕ) (name : List ℕ) (scene : Scene) (place : Place) (halt : Halt) (e : Ending)
     → with_fault stopped_as (first_scene held coding budget name) ≡ Ok scene → Runs stands [] (ending_of place halt) (run_of (world scene [])) → IsEnding (ending_of place halt) e → Runs stands [] e (meaning held coding budget name)

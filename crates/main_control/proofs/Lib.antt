@@ -1,6 +1,10 @@
 pub mod Recursion
 pub mod Growth
+pub mod Sets
+pub mod Going
+pub mod Shipping
 pub mod Joins
+pub mod Boxing
 pub mod Runs
 pub mod Closing
 pub mod Falls

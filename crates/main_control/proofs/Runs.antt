@@ -2,15 +2,21 @@
 use Rattle.std.proofs.Common.{◌≡◌, ℕ, zero, suc, ◌+◌, ◌<◌, List, [], nat_lt, if◌then◌else◌, cond, Bool, true, false, Ok, Err, refl, ◌∙◌, arith}
 use Rattle.std.proofs.lemmas.Bool.{lt-ltb, ltb-true}
 use Rattle.ts_base.specs.Agreement.{AgreesFault, with_fault}
+use Rattle.ts_outside.specs.States.{FilesState}
+use Rattle.jlist_builder.specs.Entries.{Entry}
+use Rattle.mouth.specs.Sizes.{size}
+use Rattle.mouth.specs.Keeping.{reading}
+use Rattle.open_lists.specs.Standing.{StandFor}
 use Rattle.dvi_writer.specs.Reading.{Asked}
 use Rattle.shipping.specs.Boxes.{BeginsWith}
 use Rattle.main_control.specs.declared.ending.Ending.{Ending}
 use Rattle.main_control.specs.declared.ending.Ending.TheVariants as endings
 use Rattle.main_control.specs.Endings.{stopped_as, ending_read}
-use Rattle.main_control.specs.Worlds.{Scene, World, world, Stopped, Step, Quiet, boxes_of}
+use Rattle.main_control.specs.Bodies.{Body}
+use Rattle.main_control.specs.Worlds.{World, world, Stopped, Step, Quiet, scene_of, boxes_of}
 use Rattle.main_control.specs.Turn.{turn_of}
 use Rattle.main_control.specs.Run.{rank, after_turn, no_run, run_step, run_of, run_first}
-use Rattle.main_control.specs.Standing.{Partly, EndsWith, EndsSo, RunsWith, Runs}
+use Rattle.main_control.specs.Standing.{Partly, EndsWith, EndsSo, GoesTo, RunsWith, Runs, entries_of}
 use Rattle.main_control.proofs.Growth.{begins_same, begins_then, turn_grows}
 use Rattle.main_control.proofs.Recursion.{fix-is}
 
@@ -53,35 +59,37 @@ run_grows w = grows_below (rank w + 1) w (omega arith)
 
 -- ---- where a run has come
 
--- The run from the start is the run from this scene with the boxes for which the shipper stands.
-pub record Going (stands : List Asked → Type 0) (start : World) (scene : Scene) : Type 0 where
+-- The run from the start is the run from here, with entries for which the lists stand, and boxes for which the shipper does.
+pub record Going (stands : List Asked → Type 0) (start : World) (b : Body) (state : FilesState) : Type 0 where
+  pub entries : List (List Entry)
+  pub listed : StandFor b.lists entries
   pub boxes : List Asked
   pub taken : stands boxes
   pub begun : BeginsWith boxes start.boxes
-  pub same : run_of start ≡ run_of (world scene boxes)
+  pub same : run_of start ≡ run_of (world (scene_of b state entries) boxes)
 
-pub going_first : (stands : List Asked → Type 0) (scene : Scene) (boxes : List Asked) → stands boxes → Going stands (world scene boxes) scene
-going_first stands scene boxes taken = record { boxes = boxes; taken = taken; begun = begins_same boxes; same = refl }
+pub going_first : (stands : List Asked → Type 0) (b : Body) (state : FilesState) (entries : List (List Entry)) (boxes : List Asked) → StandFor b.lists entries → stands boxes
+    → Going stands (world (scene_of b state entries) boxes) b state
+going_first stands b state entries boxes listed taken = record { entries = entries; listed = listed; boxes = boxes; taken = taken; begun = begins_same boxes; same = refl }
 
--- the scene after a turn, with boxes for which the shipper stands
-abbrev pub TurnsTo : (List Asked → Type 0) → Scene → Step → Type 0
-TurnsTo stands scene given = (given ≡ Ok (world scene (boxes_of given))) × stands (boxes_of given)
-
-module _ (stands stands' : List Asked → Type 0) (start : World) (scene : Scene) where
-  pub going_on : (scene' : Scene) → Going stands start scene → ((b : List Asked) → stands b → TurnsTo stands' scene' (turn_of (world scene b))) → ((b b' : List Asked) → rank (world scene' b') < rank (world scene b)) → Going stands' start scene'
-  going_on scene' now goes less =
-      let turn = goes now.boxes now.taken in
-      let more = boxes_of (turn_of (world scene now.boxes)) in
+module _ (stands stands' : List Asked → Type 0) (start : World) (b : Body) (state : FilesState) where
+  pub going_on : (b' : Body) (state' : FilesState) → Going stands start b state → ((e : List (List Entry)) → StandFor b.lists e → (bs : List Asked) → stands bs → GoesTo stands' b' state' (turn_of (world (scene_of b state e) bs)))
+      → size (reading b'.gullet state') < size (reading b.gullet state) → Going stands' start b' state'
+  going_on b' state' now goes less =
+      let given = turn_of (world (scene_of b state now.entries) now.boxes) in
+      let turn = goes now.entries now.listed now.boxes now.taken in
       record {
-        boxes = more;
-        taken = turn.1;
-        begun = begins_then start.boxes now.boxes more now.begun (turn_grows (world scene now.boxes));
-        same = now.same ∙ run_more (world scene now.boxes) (world scene' more) turn.0 (less now.boxes more);
+        entries = entries_of given;
+        listed = turn.1.0;
+        boxes = boxes_of given;
+        taken = turn.1.1;
+        begun = begins_then start.boxes now.boxes (boxes_of given) now.begun (turn_grows (world (scene_of b state now.entries) now.boxes));
+        same = now.same ∙ run_more (world (scene_of b state now.entries) now.boxes) (world (scene_of b' state' (entries_of given)) (boxes_of given)) turn.0 less;
       }
 
-  run_with : (e : Ending) (now : Going stands start scene) → EndsWith stands' e (turn_of (world scene now.boxes)) → RunsWith stands' e (run_of start)
+  run_with : (e : Ending) (now : Going stands start b state) → EndsWith stands' e (turn_of (world (scene_of b state now.entries) now.boxes)) → RunsWith stands' e (run_of start)
   run_with e now ends =
-      let whole = now.same ∙ run_last (world scene now.boxes) _ ends.0 in
+      let whole = now.same ∙ run_last (world (scene_of b state now.entries) now.boxes) _ ends.0 in
       rw whole (refl, ends.1)
 
   -- what a turn ships, the run ships
@@ -93,18 +101,19 @@ module _ (stands stands' : List Asked → Type 0) (start : World) (scene : Scene
       first (Ok next) = guard_grows next (nat_lt (rank next) (rank w)) (λ is. run_grows next)
       first (Err s) = begins_same s.boxes
 
-  run_partly : (now : Going stands start scene) → Partly stands' now.boxes (boxes_of (turn_of (world scene now.boxes))) → Partly stands' start.boxes ((run_of start).boxes)
+  run_partly : (now : Going stands start b state) → Partly stands' now.boxes (boxes_of (turn_of (world (scene_of b state now.entries) now.boxes))) → Partly stands' start.boxes ((run_of start).boxes)
   run_partly now partly =
-      let whole : BeginsWith ((run_of (world scene now.boxes)).boxes) partly.boxes = begins_then partly.boxes _ _ partly.meant (turn_first (world scene now.boxes)) in
+      let w = world (scene_of b state now.entries) now.boxes in
+      let whole : BeginsWith ((run_of w).boxes) partly.boxes = begins_then partly.boxes _ _ partly.meant (turn_first w) in
       record { boxes = partly.boxes; taken = partly.taken; begun = begins_then start.boxes now.boxes partly.boxes now.begun partly.begun; meant = rw now.same whole }
 
-  pub going_last : (e : Ending) → Going stands start scene → ((b : List Asked) → stands b → EndsSo stands' b e (turn_of (world scene b))) → Runs stands' start.boxes e (run_of start)
-  going_last endings.Ended now ends = run_with endings.Ended now (ends now.boxes now.taken)
-  going_last (endings.Fault fault) now ends = run_with (endings.Fault fault) now (ends now.boxes now.taken)
-  going_last (endings.Budget place) now ends = run_with (endings.Budget place) now (ends now.boxes now.taken)
-  going_last endings.ReadFault now ends = run_partly now (ends now.boxes now.taken)
-  going_last endings.SinkFault now ends = run_partly now (ends now.boxes now.taken)
-  going_last endings.NoMemory now ends = run_partly now (ends now.boxes now.taken)
+  pub going_last : (e : Ending) → Going stands start b state → ((es : List (List Entry)) → StandFor b.lists es → (bs : List Asked) → stands bs → EndsSo stands' bs e (turn_of (world (scene_of b state es) bs))) → Runs stands' start.boxes e (run_of start)
+  going_last endings.Ended now ends = run_with endings.Ended now (ends now.entries now.listed now.boxes now.taken)
+  going_last (endings.Fault fault) now ends = run_with (endings.Fault fault) now (ends now.entries now.listed now.boxes now.taken)
+  going_last (endings.Budget place) now ends = run_with (endings.Budget place) now (ends now.entries now.listed now.boxes now.taken)
+  going_last endings.ReadFault now ends = run_partly now (ends now.entries now.listed now.boxes now.taken)
+  going_last endings.SinkFault now ends = run_partly now (ends now.entries now.listed now.boxes now.taken)
+  going_last endings.NoMemory now ends = run_partly now (ends now.entries now.listed now.boxes now.taken)
 
 -- ---- a start that is refused
 

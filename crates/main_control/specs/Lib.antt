@@ -4,6 +4,9 @@ pub mod Bodies
 pub mod Worlds
 pub mod Commands
 pub mod Groups
+pub mod Fonts
+pub mod Lists
+pub mod Boxes
 pub mod Turn
 pub mod Run
 pub mod Standing

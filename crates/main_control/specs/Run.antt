@@ -13,7 +13,8 @@ use Rattle.main_control.specs.declared.ending.Ending.{Ending}
 use Rattle.main_control.specs.declared.ending.Ending.TheVariants as endings
 use Rattle.main_control.specs.Recursion.{fix}
 use Rattle.main_control.specs.Endings.{stopped_as}
-use Rattle.main_control.specs.Worlds.{Scene, World, world, Stopped, stopped, Quiet, Step}
+use Rattle.open_lists.specs.Lists.{start as no_lists}
+use Rattle.main_control.specs.Worlds.{Scene, World, world, scene, Stopped, stopped, Quiet, Step}
 use Rattle.main_control.specs.Turn.{turn_of}
 
 -- units left, what is unread and what is pending: each turn lowers this
@@ -36,11 +37,11 @@ run_of w = fix rank no_run run_step w
 
 -- ---- the whole of it
 
--- The main file is open, the environment is that of the start, and there is no font; or FileMissing.
+-- The main file is open, the environment is that of the start, there is no font, and the main list alone is open; or FileMissing.
 abbrev pub first_scene : List Held → Coding → ℕ → List ℕ → Quiet
 first_scene held coding budget name =
     with_fault (turn_stop of_gullet) (with_fault (stop_as of_mouth_fault) (started held coding budget name))
-    >>= λ at. Ok (record { text = text at start; fonts = [] })
+    >>= λ at. Ok (scene (text at start) [] no_lists)
 
 -- what a stomach is begun with, or how the run ends
 abbrev pub started_as : Quiet → Result (Option Scene) Ending

@@ -1,12 +1,21 @@
 -- What a step of main control has done to what it and its shipper stand for.
-use Rattle.std.specs.Prelude.{◌≡◌, ◌⊎◌, ℕ, Bool, List, [], Option, Some, None, IfSome, Result, Ok, Err}
-use Rattle.ts_base.specs.Agreement.{Cause, CountsFault}
-use Rattle.ts_outside.specs.States.{FilesState}
+use Rattle.std.specs.Prelude.{◌≡◌, ◌⊎◌, ℕ, Bool, List, [], All, Option, Some, None, IfSome, Result, Ok, Err}
+use Rattle.ts_base.specs.Agreement.{Cause, AgreesFault, CountsFault}
+use Rattle.ts_outside.specs.States.{Held, FilesState}
+use Rattle.mouth.specs.Reading.{at_place}
 use Rattle.mouth.specs.Keeping.{numbers, reading, place_in, AreOpen, AreTold, IsReadable}
 use Rattle.mouth.specs.Sizes.{size}
 use Rattle.expander.specs.Holding.{AreFit}
 use Rattle.dvi_writer.specs.Reading.{Asked}
-use Rattle.shipping.specs.Boxes.{BeginsWith}
+use Rattle.dvi_commands.specs.declared.font.FontDef.{FontDef}
+use Rattle.jlist_builder.specs.Entries.{Entry}
+use Rattle.open_lists.specs.Standing.{StandFor, entries_in_all, kept_situation}
+use Rattle.font_store.specs.Measures.{AreWhole}
+use Rattle.known_fonts.specs.Standing.{AreNumbered, AreDefined, AreDefinable, AreAsHeld}
+use Rattle.known_fonts.specs.Shipped.{HasMeasuresHeld}
+use Rattle.list_commands.specs.Standing.{AreKeptOf}
+use Rattle.control_faults.specs.TurnFaults.{read_cause}
+use Rattle.shipping.specs.Boxes.{BeginsWith, last_table}
 use Rattle.shipping.specs.Faults.{StaysWhole}
 use Rattle.control_faults.specs.declared.turn_fault.TurnFault.{TurnFault}
 use Rattle.control_faults.specs.declared.turn_fault.TurnFault.TheVariants as faults
@@ -18,12 +27,54 @@ use Rattle.main_control.specs.declared.ending.Turn.{Turn}
 use Rattle.main_control.specs.declared.ending.Turn.TheVariants as turns
 use Rattle.main_control.specs.Endings.{ending_of, HasPlace}
 use Rattle.main_control.specs.Bodies.{Body}
-use Rattle.main_control.specs.Worlds.{world, scene_of, Stopped, stopped, Step, boxes_of}
+use Rattle.main_control.specs.Worlds.{world, scene_of, Stopped, stopped, Quiet, Step, boxes_of}
 
--- Tokens can be taken on, with this environment.
+-- ---- what is true between commands
+
+-- Tokens can be taken on with this environment, whose situation is that of the innermost list; store, environment and table
+-- number the fonts alike; and each glyph of the open lists is one of these fonts.
 pub record IsGoing (b : Body) : Type 0 where
   pub readable : IsReadable b.gullet
   pub fit : AreFit b.gullet.names b.nest
+  pub situation : b.nest.situation ≡ kept_situation b.lists
+  pub numbered : AreNumbered b.nest b.fonts
+  pub defined : AreDefined b.table b.fonts
+  pub definable : AreDefinable b.fonts
+  pub whole : AreWhole b.fonts
+  pub listed : AreKeptOf b.fonts b.lists
+
+-- at the start, where nothing is loaded or shipped, and no list but the main one is open
+pub record IsBegun (b : Body) : Type 0 where
+  pub fonts : b.fonts ≡ []
+  pub table : b.table ≡ []
+  pub lists : StandFor b.lists []
+
+-- what a command leaves that reads or changes what is read and the environments alone
+pub record IsApart (old new : Body) : Type 0 where
+  pub fonts : new.fonts ≡ old.fonts
+  pub table : new.table ≡ old.table
+  pub lists : new.lists ≡ old.lists
+
+-- what one leaves that loads no font
+pub record KeepsFonts (old new : Body) : Type 0 where
+  pub fonts : new.fonts ≡ old.fonts
+  pub table : new.table ≡ old.table
+
+-- Fonts whose metrics are those of the files of their names stay so.
+abbrev pub StayHeld : FilesState → Body → Body → Type 0
+StayHeld state old new =
+    (held : List Held) → state.held ≡ Some held → AreAsHeld held old.fonts → AreAsHeld held new.fonts
+
+-- The shipper stands for boxes whose glyphs have the measures that metrics give them, as these files have them.
+abbrev pub Holds : (List Asked → Type 0) → List Held → List Asked → Type 0
+Holds stands held boxes = stands boxes × All (HasMeasuresHeld held) boxes
+
+-- The shipper stands for some boxes, and the table of the fonts begins with that of the last one.
+abbrev pub Ships : (List Asked → Type 0) → List FontDef → Type 0
+Ships stands table = (boxes : List Asked) × stands boxes × BeginsWith table (last_table boxes)
+
+abbrev pub ShipsIn : (List Asked → Type 0) → Option Body → Type 0
+ShipsIn stands body = IfSome body (λ b. Ships stands b.table)
 
 -- ---- what a stomach has: something to go on from, or nothing after its last turn
 
@@ -66,9 +117,29 @@ EndsSo stands before endings.ReadFault given = Partly stands before (boxes_of gi
 EndsSo stands before endings.SinkFault given = Partly stands before (boxes_of given)
 EndsSo stands before endings.NoMemory given = Partly stands before (boxes_of given)
 
+-- the entries of the lists that are open after a step
+abbrev pub entries_after : Quiet → List (List Entry)
+entries_after (Ok s) = entries_in_all s.lists.inner
+entries_after (Err stop) = []
+
+abbrev pub entries_of : Step → List (List Entry)
+entries_of (Ok w) = entries_in_all w.scene.lists.inner
+entries_of (Err s) = []
+
+-- Main control stands for the scene that is given.
+abbrev pub Stands : Body → FilesState → Quiet → Type 0
+Stands b state given = (given ≡ Ok (scene_of b state (entries_after given))) × StandFor b.lists (entries_after given)
+
+-- It does; or the step is refused so.
+abbrev pub Sets : {X : Type 0} → Body → FilesState → Result X TurnFault → Quiet → Type 0
+Sets b state (Ok x) given = Stands b state given
+Sets b state (Err fault) given = AgreesFault (read_cause fault) (at_place (place_in b.gullet) fault) given
+
 -- Main control stands for the world that is given, and the shipper for the boxes shipped in it.
 abbrev pub GoesTo : (List Asked → Type 0) → Body → FilesState → Step → Type 0
-GoesTo stands b state given = (given ≡ Ok (world (scene_of b state) (boxes_of given))) × stands (boxes_of given)
+GoesTo stands b state given =
+    (given ≡ Ok (world (scene_of b state (entries_of given)) (boxes_of given)))
+    × (StandFor b.lists (entries_of given) × stands (boxes_of given))
 
 -- the same of a step, whose fault has the place at which main control then is
 abbrev pub Steps : {X : Type 0} → (List Asked → Type 0) → Body → FilesState → List Asked → Result X Halt → Step → Type 0

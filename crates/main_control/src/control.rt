@@ -1,29 +1,37 @@
 //! Turns, over what is kept of the world.
 
-ghost use Rattle.std.specs.Prelude.{◌≡◌, ◌≤◌, ◌<◌, [], List, Ok, Err, IfOk, IfSome, IsSome, OnOk, OnErr};
+ghost use Rattle.std.specs.Prelude.{◌≡◌, ◌≤◌, ◌<◌, [], List, Bool, Some, Err, IfOk, IfSome, IsSome, OnOk, OnErr};
 ghost use Rattle.ts_base.specs.Agreement.{Agrees, Counts, CountsFault, IsUncounted, Uncounted, with_fault};
-ghost use Rattle.ts_outside.specs.States.{FilesState, KeepsAll};
-ghost use Rattle.env_groups.specs.Environments.{Nest};
+ghost use Rattle.ts_outside.specs.States.{Held, FilesState, KeepsAll};
+ghost use Rattle.jlist_builder.specs.Entries.{Entry};
+ghost use Rattle.open_lists.specs.Standing.{StandFor};
+ghost use Rattle.shipping.specs.Boxes.{BeginsWith};
+ghost use Rattle.known_fonts.specs.Standing.{AreAsHeld};
 ghost use Rattle.mouth.specs.Sizes.{size};
 ghost use Rattle.mouth.specs.Keeping.{numbers, reading, place_in, AreOpen, AreTold, LeavesOthers};
 ghost use Rattle.expander.specs.Holding.{Goes};
 ghost use Rattle.dvi_writer.specs.Reading.{Asked};
 ghost use Rattle.mouth.specs.Opening.{before_lines};
-ghost use Rattle.control_faults.specs.TurnFaults.{of_gullet};
+ghost use Rattle.control_faults.specs.TurnFaults.{of_gullet, read_cause, sink_cause};
 ghost use Rattle.main_control.specs.Endings.{ending_at as the_ending_at, ending_of, ending_read, ending_shipped, halt_read, halt_shipped, stopped_as};
-ghost use Rattle.main_control.specs.Worlds.{world, scene_of};
-ghost use Rattle.main_control.specs.Turn.{is_idle as the_idle, acted, turn_of};
+ghost use Rattle.main_control.specs.Worlds.{world, stopped, scene_of};
+ghost use Rattle.main_control.specs.Turn.{is_idle as the_idle, ended, quiet_done, acted, turn_of};
 ghost use Rattle.main_control.specs.Run.{run_of, first_scene};
-ghost use Rattle.main_control.specs.Standing.{Steps, Runs, BreaksStep, BreaksHalt, IsEnding, IsGoing};
+ghost use Rattle.main_control.specs.Standing.{Sets, Steps, Runs, BreaksStep, BreaksHalt, IsEnding, IsGoing, IsBegun, StayHeld, Holds, Ships};
 
-use crate::command::{Command, command_of, meaning_of};
+use crate::command::{Command, QuietCommand, command_of};
 use crate::ending::{Ending, Halt, ending_at};
+use assignments::meant;
 use control_faults::{FaultKind, TurnFault};
+use dvi_writer::FontTable;
 use env_groups::{Env, IntKey, IntParam};
 use expander::{Gullet, GulletFault, environments_stay_fit};
 use font_store::Fonts;
 use input_codings::Coding;
+use known_fonts::fonts_begin_so;
 use mouth::Place;
+use open_lists::OpenLists;
+use open_lists::laws::glyphs_stay_of_fonts;
 use shipping::Shipper;
 use std::alloc::Global;
 use std::marker::Model;
@@ -37,6 +45,8 @@ pub(crate) struct Control {
     pub(crate) gullet: Gullet,
     pub(crate) env: Env,
     pub(crate) fonts: Fonts,
+    pub(crate) table: FontTable,
+    pub(crate) lists: OpenLists,
 }
 
 impl Model for Control {
@@ -46,17 +56,13 @@ impl Model for Control {
 
     ghost coded = { body_code };
 
-    ghost view = { λ c. record { gullet = c.gullet; nest = c.env; fonts = c.fonts } };
-}
-
-// Whether `\deadcycles` is 0.
-fn is_idle(env: &Env) -> bool
-    ensures { result ≡ the_idle env.now }
-{
-    match env.get_int(IntKey::Param(IntParam::DeadCycles)) {
-        Ok(n) => n == 0,
-        Err(_) => false,
-    }
+    ghost view = { λ c. record {
+      gullet = c.gullet;
+      nest = c.env;
+      fonts = c.fonts;
+      table = c.table;
+      lists = c.lists;
+    } };
 }
 
 // How a run ends where its main file isn't opened.
@@ -73,7 +79,8 @@ fn start_ending(name: &FileName, fault: GulletFault) -> Ending
 }
 
 impl Control {
-    /// Opens the main file, with the environment of the start and without a font.
+    /// Opens the main file, with the environment of the start, without a font, and with the main
+    /// list alone.
     pub(crate) fn start<F: Files>(
         alloc: Global,
         files: &mut F,
@@ -82,8 +89,9 @@ impl Control {
         budget: u32,
     ) -> Result<Control, Ending>
         ensures exact { IfSome (F.state files.old).held (λ held.
-            Agrees (λ c. scene_of c (F.state files.new)) ending_read result
+            Agrees (λ c. scene_of c (F.state files.new) []) ending_read result
             (with_fault stopped_as (first_scene held coding budget name.now))) }
+        ensures begun { IfOk result IsBegun }
         ensures opened { IfOk result (λ c. AreOpen c.gullet (F.state files.new)) }
         ensures going { IfOk result IsGoing }
         ensures told { IfOk result (λ c. IsSome (F.state files.old).held
@@ -96,6 +104,8 @@ impl Control {
             (F.state files.new).faults }
     {
         environments_stay_fit();
+        fonts_begin_so();
+        glyphs_stay_of_fonts();
         let Ok(env) = Env::new(alloc) else {
             return Err(Ending::NoMemory);
         };
@@ -105,13 +115,78 @@ impl Control {
                 gullet,
                 env,
                 fonts: Fonts::new(alloc),
+                table: FontTable::new(alloc),
+                lists: OpenLists::new(alloc),
             }),
             Err(fault) => Err(start_ending(name, fault)),
         }
     }
 
+    // Carries out a command that ships nothing.
+    #[tactic(auto, unfolding(crate::specs::Turn::quiet_done))]
+    fn do_quiet<F: Files>(&mut self, files: &mut F, command: QuietCommand) -> Result<(), TurnFault>
+        requires opened { AreOpen self.old.gullet (F.state files.old) }
+        requires going { IsGoing self.old }
+        ensures exact { AreTold self.old.gullet (F.state files.old)
+            → (entries : List (List Entry)) → StandFor self.old.lists entries
+            → Sets self.new (F.state files.new) result
+            (quiet_done command (scene_of self.old (F.state files.old) entries)) }
+        ensures goes { Goes self.old.gullet (F.state files.old) self.new.gullet
+            (F.state files.new) }
+        ensures going { OnOk result (IsGoing self.new) }
+        ensures begins { BeginsWith self.new.table self.old.table }
+        ensures held { StayHeld (F.state files.old) self.old self.new }
+        ensures unshipped { Uncounted sink_cause result }
+        ensures size { OnOk result (size (reading self.new.gullet (F.state files.new))
+            ≤ size (reading self.old.gullet (F.state files.old))) }
+        ensures counted { Counts read_cause result (F.state files.old).faults
+            (F.state files.new).faults }
+    {
+        match command {
+            QuietCommand::Text(command) => self.do_text(files, command),
+            QuietCommand::Assign(command) => self.assign(files, command),
+            QuietCommand::Put(c) => self.put_in_box(c),
+            QuietCommand::PutNumbered => self.put_numbered_in_box(files),
+            QuietCommand::Inhibit => {
+                self.inhibit();
+                Ok(())
+            }
+            QuietCommand::Space => self.space(),
+            QuietCommand::ShipOut => self.want_box(files),
+        }
+    }
+
+    // Whether `\deadcycles` is 0.
+    fn is_idle(&self) -> bool
+        ensures { result ≡ the_idle self.now.nest }
+    {
+        match self.env.get_int(IntKey::Param(IntParam::DeadCycles)) {
+            Ok(n) => n == 0,
+            Err(_) => false,
+        }
+    }
+
+    // How turns halt at `\end`.
+    #[tactic(auto, using(crate::proofs::Joins::ended_in_box))]
+    fn end_halt(&self) -> Halt
+        ensures exact { (state : FilesState) → (entries : List (List Entry))
+            → (boxes : List Asked) → ended (scene_of self.now state entries) boxes
+            ≡ Err (stopped (ending_of (place_in self.now.gullet) result) boxes) }
+        ensures quiet { IsUncounted (halt_read result) }
+        ensures unshipped { IsUncounted (halt_shipped result) }
+        ensures whole { (old : Bool) → BreaksHalt result old old }
+    {
+        if self.is_in_hbox() {
+            return Halt::Refused(TurnFault::Kind(FaultKind::NotInMode));
+        }
+        if self.is_idle() {
+            Halt::Ended
+        } else {
+            Halt::Refused(TurnFault::Kind(FaultKind::NotBuilt))
+        }
+    }
+
     // The group of a command.
-    #[tactic(auto, using(crate::proofs::Joins::calm_ends), unfolding(crate::specs::Turn::acted))]
     fn act<F: Files, P: Shipper>(
         &mut self,
         files: &mut F,
@@ -120,13 +195,18 @@ impl Control {
     ) -> Result<(), Halt>
         requires opened { AreOpen self.old.gullet (F.state files.old) }
         requires going { IsGoing self.old }
-        ensures exact { AreTold self.old.gullet (F.state files.old) → (boxes : List Asked)
-            → P.stands shipper.old boxes
-            → Steps (P.stands shipper.new) self.new (F.state files.new) boxes result
-            (acted command (scene_of self.old (F.state files.old)) boxes) }
+        requires ships { Ships (P.stands shipper.old) self.old.table }
+        ensures exact { AreTold self.old.gullet (F.state files.old) → (held : List Held)
+            → AreAsHeld held self.old.fonts
+            → (entries : List (List Entry)) → StandFor self.old.lists entries
+            → (boxes : List Asked) → Holds (P.stands shipper.old) held boxes
+            → Steps (Holds (P.stands shipper.new) held) self.new (F.state files.new) boxes
+            result (acted command (scene_of self.old (F.state files.old) entries) boxes) }
         ensures goes { Goes self.old.gullet (F.state files.old) self.new.gullet
             (F.state files.new) }
         ensures going { OnOk result (IsGoing self.new) }
+        ensures ships { OnOk result (Ships (P.stands shipper.new) self.new.table) }
+        ensures held { StayHeld (F.state files.old) self.old self.new }
         ensures breaks { BreaksStep result (P.broken shipper.old) (P.broken shipper.new) }
         ensures origin { P.origin shipper.new ≡ P.origin shipper.old }
         ensures read { Counts halt_read result (F.state files.old).faults
@@ -137,14 +217,9 @@ impl Control {
             ≤ size (reading self.old.gullet (F.state files.old))) }
     {
         match command {
-            Command::Nothing => Ok(()),
-            Command::Assign(command) => Ok(self.assign(files, command)?),
-            Command::Open(kind) => Ok(self.open_group(kind)?),
-            Command::Close(kind) => Ok(self.close_group(kind)?),
-            Command::Refuse(kind) => Err(Halt::Refused(TurnFault::Kind(kind))),
-            Command::IgnoreSpaces => Ok(self.ignore_spaces(files)?),
-            Command::End if is_idle(&self.env) => Err(Halt::Ended),
-            Command::End => Err(Halt::Refused(TurnFault::Kind(FaultKind::NotBuilt))),
+            Command::Quiet(command) => Ok(self.do_quiet(files, command)?),
+            Command::CloseBrace => self.close_brace(shipper),
+            Command::End => Err(self.end_halt()),
         }
     }
 
@@ -156,13 +231,18 @@ impl Control {
     ) -> Result<(), Halt>
         requires opened { AreOpen self.old.gullet (F.state files.old) }
         requires going { IsGoing self.old }
-        ensures exact { AreTold self.old.gullet (F.state files.old) → (boxes : List Asked)
-            → P.stands shipper.old boxes
-            → Steps (P.stands shipper.new) self.new (F.state files.new) boxes result
-            (turn_of (world (scene_of self.old (F.state files.old)) boxes)) }
+        requires ships { Ships (P.stands shipper.old) self.old.table }
+        ensures exact { AreTold self.old.gullet (F.state files.old) → (held : List Held)
+            → AreAsHeld held self.old.fonts
+            → (entries : List (List Entry)) → StandFor self.old.lists entries
+            → (boxes : List Asked) → Holds (P.stands shipper.old) held boxes
+            → Steps (Holds (P.stands shipper.new) held) self.new (F.state files.new) boxes
+            result (turn_of (world (scene_of self.old (F.state files.old) entries) boxes)) }
         ensures goes { Goes self.old.gullet (F.state files.old) self.new.gullet
             (F.state files.new) }
         ensures going { OnOk result (IsGoing self.new) }
+        ensures ships { OnOk result (Ships (P.stands shipper.new) self.new.table) }
+        ensures held { StayHeld (F.state files.old) self.old self.new }
         ensures breaks { BreaksStep result (P.broken shipper.old) (P.broken shipper.new) }
         ensures origin { P.origin shipper.new ≡ P.origin shipper.old }
         ensures read { Counts halt_read result (F.state files.old).faults
@@ -173,7 +253,8 @@ impl Control {
             < size (reading self.old.gullet (F.state files.old))) }
     {
         let token = self.take(files)?;
-        let command = command_of(&meaning_of(&token, &self.env));
+        let command = command_of(&meant(&token, &self.env));
+        self.cut_before(&command);
         self.act(files, shipper, command)
     }
 
@@ -181,10 +262,14 @@ impl Control {
     pub(crate) fn turns<F: Files, P: Shipper>(&mut self, files: &mut F, shipper: &mut P) -> Halt
         requires opened { AreOpen self.old.gullet (F.state files.old) }
         requires going { IsGoing self.old }
-        ensures exact { AreTold self.old.gullet (F.state files.old) → (boxes : List Asked)
-            → P.stands shipper.old boxes
-            → Runs (P.stands shipper.new) boxes (ending_of (place_in self.new.gullet) result)
-            (run_of (world (scene_of self.old (F.state files.old)) boxes)) }
+        requires ships { Ships (P.stands shipper.old) self.old.table }
+        ensures exact { AreTold self.old.gullet (F.state files.old) → (held : List Held)
+            → (F.state files.old).held ≡ Some held → AreAsHeld held self.old.fonts
+            → (entries : List (List Entry)) → StandFor self.old.lists entries
+            → (boxes : List Asked) → Holds (P.stands shipper.old) held boxes
+            → Runs (Holds (P.stands shipper.new) held) boxes
+            (ending_of (place_in self.new.gullet) result)
+            (run_of (world (scene_of self.old (F.state files.old) entries) boxes)) }
         ensures opened { AreOpen self.new.gullet (F.state files.new) }
         ensures others { LeavesOthers (numbers self.old.gullet) (F.state files.old)
             (numbers self.new.gullet) (F.state files.new) }
@@ -233,6 +318,8 @@ impl Control {
             gullet,
             env: _,
             fonts: _,
+            table: _,
+            lists: _,
         } = self;
         gullet.close_all(files);
         ending

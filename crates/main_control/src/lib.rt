@@ -2,12 +2,15 @@
 //! chapters 24 and 25; TeX: The Program, part 46).
 #![tactic(auto)]
 
+mod boxes;
 mod command;
 mod control;
 mod ending;
-mod groups;
+mod fonts;
 mod laws;
+mod lists;
 mod stomach;
+mod texts;
 
 pub use control_faults::{Fault, FaultKind};
 pub use ending::{Ending, Turn};

@@ -2,18 +2,22 @@
 
 ghost use Rattle.std.specs.Prelude.{◌≡◌, ◌<◌, [], List, None, IfOk, IfSome, IsSome, OnErr};
 ghost use Rattle.ts_base.specs.Agreement.{Agrees, Counts, CountsFault};
-ghost use Rattle.ts_outside.specs.States.{KeepsAll};
+ghost use Rattle.ts_outside.specs.States.{Held, KeepsAll};
 ghost use Rattle.mouth.specs.Keeping.{AreTold, LeavesOthers};
+ghost use Rattle.jlist_builder.specs.Entries.{Entry};
+ghost use Rattle.open_lists.specs.Standing.{StandFor};
+ghost use Rattle.known_fonts.specs.Standing.{AreAsHeld};
 ghost use Rattle.dvi_writer.specs.Reading.{Asked};
 ghost use Rattle.main_control.specs.Endings.{ending_read, ending_shipped};
 ghost use Rattle.main_control.specs.Worlds.{world, scene_of, scene_in};
 ghost use Rattle.main_control.specs.Turn.{turn_of};
 ghost use Rattle.main_control.specs.Run.{first_scene, meaning, started_as};
-ghost use Rattle.main_control.specs.Standing.{Runs, Turns, GoesOn, IsLast, CountsTurn, BreaksTurn, BreaksAt, numbers_in, size_in, IsOpen, IsTold};
+ghost use Rattle.main_control.specs.Standing.{IsBegun, ShipsIn, StayHeld, Holds, Runs, Turns, GoesOn, IsLast, CountsTurn, BreaksTurn, BreaksAt, numbers_in, size_in, IsOpen, IsTold};
 
 use crate::control::Control;
 use crate::ending::{Ending, Turn};
 use input_codings::Coding;
+use known_fonts::fonts_begin_so;
 use shipping::Shipper;
 use std::alloc::Global;
 use std::marker::Model;
@@ -55,8 +59,9 @@ impl Stomach {
         budget: u32,
     ) -> Result<Stomach, Ending>
         ensures exact { IfSome (F.state files.old).held (λ held.
-            Agrees (λ s. scene_in s (F.state files.new)) ending_read result
+            Agrees (λ s. scene_in s (F.state files.new) []) ending_read result
             (started_as (first_scene held coding budget name.now))) }
+        ensures begun { IfOk result (λ s. IfSome s IsBegun) }
         ensures opened { IfOk result (λ s. IsOpen s (F.state files.new)) }
         ensures told { IfOk result (λ s. IsSome (F.state files.old).held
             → IsTold s (F.state files.new)) }
@@ -76,10 +81,16 @@ impl Stomach {
     /// 25). The last turn closes the files, and no other may follow it.
     pub fn turn<F: Files, P: Shipper>(&mut self, files: &mut F, shipper: &mut P) -> Turn
         requires opened { IsOpen self.old (F.state files.old) }
+        requires ships { ShipsIn (P.stands shipper.old) self.old }
         ensures exact { IfSome self.old (λ b. AreTold b.gullet (F.state files.old)
-            → (boxes : List Asked) → P.stands shipper.old boxes
-            → Turns (P.stands shipper.new) self.new (F.state files.new) boxes result
-            (turn_of (world (scene_of b (F.state files.old)) boxes))) }
+            → (held : List Held) → AreAsHeld held b.fonts
+            → (entries : List (List Entry)) → StandFor b.lists entries
+            → (boxes : List Asked) → Holds (P.stands shipper.old) held boxes
+            → Turns (Holds (P.stands shipper.new) held) self.new (F.state files.new) boxes
+            result (turn_of (world (scene_of b (F.state files.old) entries) boxes))) }
+        ensures ships { GoesOn result (ShipsIn (P.stands shipper.new) self.new) }
+        ensures held { GoesOn result (IfSome self.old (λ old. IfSome self.new (λ new.
+            StayHeld (F.state files.old) old new))) }
         ensures opened { GoesOn result (IsOpen self.new (F.state files.new)) }
         ensures told { GoesOn result (IsTold self.old (F.state files.old)
             → IsTold self.new (F.state files.new)) }
@@ -123,7 +134,8 @@ impl Stomach {
     ) -> Ending
         requires none { P.stands shipper.old [] }
         ensures exact { IfSome (F.state files.old).held (λ held.
-            Runs (P.stands shipper.new) [] result (meaning held coding budget name.now)) }
+            Runs (Holds (P.stands shipper.new) held) [] result
+            (meaning held coding budget name.now)) }
         ensures kept { KeepsAll (F.state files.old) (F.state files.new) }
         ensures breaks { BreaksAt result (P.broken shipper.old) (P.broken shipper.new) }
         ensures origin { P.origin shipper.new ≡ P.origin shipper.old }
@@ -132,6 +144,7 @@ impl Stomach {
         ensures shipped { CountsFault (ending_shipped result) (P.faults shipper.old)
             (P.faults shipper.new) }
     {
+        fonts_begin_so();
         match Control::start(alloc, files, name, coding, budget) {
             Ok(mut control) => {
                 let halt = control.turns(files, shipper);

@@ -1,6 +1,7 @@
 use Rattle.std.proofs.Common.{◌≡◌, ◌∙◌, ap, sym, true, false, List, Option, ℕ}
 use Rattle.std.specs.Borrow.{GName}
 use Rattle.shipping.specs.Standing.{Took, held_before}
+use Rattle.main_control.specs.Standing.{Holds}
 use Rattle.source_job.specs.Asked.{request_seen}
 use Rattle.source_job.specs.Promise.{request_meaning}
 use Rattle.source_job.specs.Sets.{is_meant}
@@ -19,9 +20,9 @@ returns-then-not-is_meant-clause-sets g c held told =
     let before : held_before (g.S.Sink.held shipper.out.now) shipper.put ≡ g.S.Sink.held c.args.out.now = ap (λ (p : GName × Option (List ℕ)). p.1) origin ∙ first in
     let cut : is_meant c.run-ending.result ≡ false = sym c.is_meant.ensures ∙ c.if-not-is_meant.true in
     let runs = rw told at c.run-ending.ensures.exact in
-    rw (after, ← before) (set_part (λ boxes. Took (g.S.Sink.held shipper.out.now) shipper.writer shipper.put shipper.broken boxes) m _ _ c.run-ending.result _ _ cut c.run-ending.ensures.breaks c.new-shipper.ensures.whole runs
-    (λ boxes took begins whole. taken_pages c.pages_are_whole.ensures (g.S.Sink.held shipper.out.now) shipper.writer shipper.put shipper.broken boxes m.boxes took begins whole)
-    (λ boxes took begins. taken_part (g.S.Sink.held shipper.out.now) shipper.writer shipper.put shipper.broken boxes m.boxes took begins))
+    rw (after, ← before) (set_part (Holds (λ boxes. Took (g.S.Sink.held shipper.out.now) shipper.writer shipper.put shipper.broken boxes) held) m _ _ c.run-ending.result _ _ cut c.run-ending.ensures.breaks c.new-shipper.ensures.whole runs
+    (λ boxes took begins whole. taken_pages c.pages_are_whole.ensures (g.S.Sink.held shipper.out.now) shipper.writer shipper.put shipper.broken boxes m.boxes took.0 begins whole)
+    (λ boxes took begins. taken_part (g.S.Sink.held shipper.out.now) shipper.writer shipper.put shipper.broken boxes m.boxes took.0 begins))
 
 pub returns-then-not-is_meant-clause-appends : goal.returns-then-not-is_meant-clause-appends
 returns-then-not-is_meant-clause-appends g c =
@@ -45,8 +46,8 @@ returns-in-Ok-clause-sets g c held told =
     let meant : is_meant c.run-ending.result ≡ true = sym c.is_meant.ensures ∙ c.if-not-is_meant.false in
     let whole = meant_whole c.run-ending.result _ _ meant c.run-ending.ensures.breaks c.new-shipper.ensures.whole in
     let runs = rw told at c.run-ending.ensures.exact in
-    rw (after, ← before) (set_whole (λ boxes. Took (g.S.Sink.held shipper.out.now) shipper.writer shipper.put shipper.broken boxes) m _ _ c.run-ending.result meant runs
-    (λ boxes took. c.in-Ok.ensures.done boxes took whole))
+    rw (after, ← before) (set_whole (Holds (λ boxes. Took (g.S.Sink.held shipper.out.now) shipper.writer shipper.put shipper.broken boxes) held) m _ _ c.run-ending.result meant runs
+    (λ boxes took. c.in-Ok.ensures.done boxes took.0 whole))
 
 pub returns-in-Err-clause-sets : goal.returns-in-Err-clause-sets
 returns-in-Err-clause-sets g c held told =
@@ -60,8 +61,8 @@ returns-in-Err-clause-sets g c held told =
     let meant : is_meant c.run-ending.result ≡ true = sym c.is_meant.ensures ∙ c.if-not-is_meant.false in
     let whole = meant_whole c.run-ending.result _ _ meant c.run-ending.ensures.breaks c.new-shipper.ensures.whole in
     let runs = rw told at c.run-ending.ensures.exact in
-    rw (after, ← before, c.unfinished.ensures) (set_unfinished (λ boxes. Took (g.S.Sink.held shipper.out.now) shipper.writer shipper.put shipper.broken boxes) m _ _ c.run-ending.result c.in-Err.fault meant runs
-    (λ boxes took. c.in-Err.ensures.partly boxes took whole))
+    rw (after, ← before, c.unfinished.ensures) (set_unfinished (Holds (λ boxes. Took (g.S.Sink.held shipper.out.now) shipper.writer shipper.put shipper.broken boxes) held) m _ _ c.run-ending.result c.in-Err.fault meant runs
+    (λ boxes took. c.in-Err.ensures.partly boxes took.0 whole))
 
 pub returns-in-Ok-clause-appends : goal.returns-in-Ok-clause-appends
 returns-in-Ok-clause-appends g c =

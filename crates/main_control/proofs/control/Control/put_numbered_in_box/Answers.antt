@@ -1,0 +1,9 @@
+use Rattle.main_control.specs.Worlds.{scene_of}
+use Rattle.main_control.specs.Lists.{numbered_added}
+use Rattle.main_control.proofs.Sets.{outside_is}
+use Rattle.main_control.proofs.control.Control.put_numbered_in_box.Goals as goal
+
+pub returns-else-is_in_hbox-clause-exact : goal.returns-else-is_in_hbox-clause-exact
+returns-else-is_in_hbox-clause-exact g c told entries stand =
+    let state = g.F.Files.state c.args.files.now in
+    outside_is numbered_added (scene_of c.args.self.now state entries) (c.if-is_in_hbox.ensures.lists state entries)
